@@ -1,0 +1,4 @@
+-- Laws of tests, of the places below a bound, and of bytes.
+-- Assumes nothing.
+pub mod TestLaws
+pub mod PlaceLaws

@@ -1,0 +1,24 @@
+-- Tests of all the places below a bound.
+-- Assumes nothing.
+use Prim.Native.Nat.{ℕ, zero, suc, _+_}
+use mathlib.Core.Bool.{Bool, true, false, cond, _&&_, _||_}
+
+-- f holds at every place below n
+unfoldable pub every : ℕ → (ℕ → Bool) → Bool
+every zero f = true
+every (suc n) f = f n && every n f
+
+-- f holds at some place below n
+unfoldable pub any : ℕ → (ℕ → Bool) → Bool
+any zero f = false
+any (suc n) f = f n || any n f
+
+-- at how many places below n f holds
+unfoldable pub count : ℕ → (ℕ → Bool) → ℕ
+count zero f = 0
+count (suc n) f = cond (f n) 1 0 + count n f
+
+-- the first place below n at which f holds; n where there is none
+unfoldable pub first : ℕ → (ℕ → Bool) → ℕ
+first zero f = 0
+first (suc n) f = cond (any n f) (first n f) (cond (f n) n (suc n))

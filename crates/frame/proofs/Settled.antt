@@ -1,0 +1,48 @@
+-- No second outcome satisfies the promise of `read` or of `write`: the definitions `told` and `left`, by which the promises
+-- give the paper's numbers, take no two outcomes for one.
+-- Assumes nothing.
+use Prim.Native.Nat.{ℕ}
+use mathlib.Core.Path.{_≡_, refl, ap, ap₂, sym, _∙_}
+use mathlib.Core.List.{List}
+use native.Mathlib.Omega.{arith}
+use lib.ListN.{getD}
+use Rattle.frame.specs.Frames.{Values, left, reading, told, valuesOf, writing}
+use Rattle.frame.specs.declared.Frame.{Frame}
+use Rattle.frame.specs.declared.Frame.the-variants.{Multicast, Propose}
+use Rattle.frame.specs.declared.ReadAnswer.{ReadAnswer}
+use Rattle.frame.specs.declared.ReadAnswer.the-variants.{Taken, NoFrame}
+use Rattle.frame.specs.declared.WriteAnswer.{WriteAnswer}
+use Rattle.frame.specs.declared.WriteAnswer.the-variants.{Written, TooShort}
+
+-- the number at a place of a frame's body
+at : ℕ → Values → ℕ
+at i v = getD (v .numbers) i 0
+
+values-one : (f g : Frame) → valuesOf f ≡ valuesOf g → f ≡ g
+unfolding at
+values-one (Multicast p d) (Multicast q c) e = ap₂ (λ n m. Multicast (record { 0 = n }) m) (ap (at 0) e) (ap (at 1) e)
+values-one (Multicast p d) (Propose q c s t) e = let kinds = ap (λ v. v .kind) e in absurd (omega arith)
+values-one (Propose p d s t) (Multicast q c) e = let kinds = ap (λ v. v .kind) e in absurd (omega arith)
+values-one (Propose p d s t) (Propose q c u w) e = λ i.
+    Propose (record { 0 = ap (at 0) e i }) (ap (at 1) e i) (record { 0 = ap (at 2) e i }) (record { 0 = ap (at 3) e i })
+
+told-one : (r s : ReadAnswer) → told r ≡ told s → r ≡ s
+told-one (Taken f) (Taken g) e = ap Taken (values-one f g (ap (λ o. o .frame) e))
+told-one (Taken f) NoFrame e = let answers = ap (λ o. o .answer) e in absurd (omega arith)
+told-one NoFrame (Taken g) e = let answers = ap (λ o. o .answer) e in absurd (omega arith)
+told-one NoFrame NoFrame e = refl
+
+left-one : (r s : WriteAnswer) (b c : List ℕ) → left r b ≡ left s c → (r ≡ s) × (b ≡ c)
+left-one (Written n) (Written m) b c e = (ap (λ o. Written (o .count)) e, ap (λ o. o .buffer) e)
+left-one (Written n) TooShort b c e = let answers = ap (λ o. o .answer) e in absurd (omega arith)
+left-one TooShort (Written m) b c e = let answers = ap (λ o. o .answer) e in absurd (omega arith)
+left-one TooShort TooShort b c e = (refl, ap (λ o. o .buffer) e)
+
+-- what `read` promises of bytes, only one answer keeps
+pub read-settled : (bytes : List ℕ) (r s : ReadAnswer) → told r ≡ reading bytes → told s ≡ reading bytes → r ≡ s
+read-settled bytes r s p q = told-one r s (p ∙ sym q)
+
+-- what `write` promises of a frame and a buffer, only one answer with one buffer keeps
+pub write-settled : (frame : Frame) (buffer : List ℕ) (r s : WriteAnswer) (b c : List ℕ)
+    → left r b ≡ writing (valuesOf frame) buffer → left s c ≡ writing (valuesOf frame) buffer → (r ≡ s) × (b ≡ c)
+write-settled frame buffer r s b c p q = left-one r s b c (p ∙ sym q)

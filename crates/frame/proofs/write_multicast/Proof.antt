@@ -1,0 +1,35 @@
+use mathlib.Core.Path.{_≡_, refl, ap₂, sym, _∙_}
+use native.Mathlib.Omega.{arith}
+use Rattle.frame.specs.Digits.{sum}
+use Rattle.frame.specs.Frames.{bodyIn, valuesOf}
+use Rattle.frame.specs.declared.Frame.the-variants.{Multicast}
+use denote.Ref.{now}
+use Rattle.frame.proofs.FrameLaws.{then-put, writing-puts, writing-short}
+use borrow.Author.Needs.{needs}
+use Rattle.frame.proofs.write_multicast.Statement.{statement}
+use Rattle.frame.proofs.write_multicast.Tie as tie
+
+returns : tie.Need-returns
+unfolding bodyIn sum
+returns c = sym (writing-short _ _ (c .if1 .taken))
+
+returns-2 : tie.Need-returns-2
+unfolding bodyIn sum
+returns-2 c =
+    let third = c .before .before in
+    let second = third .before .before .before .before in
+    let first = second .before .before .before .before in
+    let a = first .before .before .before .before .args in
+    let paid : second .put2 .result ≡ 5 = omega arith in
+    let sent : third .put3 .result ≡ 6 = omega arith in
+    ap₂ (λ n b. record { answer = 0; count = n; buffer = b }) sent
+    (then-put 1 (a .destinations)
+    (then-put 4 (a .payment .0) (first .put .ensures .1) (first .put .ensures .0) (second .put2 .ensures .1))
+    paid
+    (third .put3 .ensures .1))
+    ∙ writing-puts (valuesOf (Multicast (a .payment) (a .destinations))) (now (a .buffer)) (omega arith) refl (omega arith)
+
+pub write-multicast-spec : {M : Type 1} → statement M
+write-multicast-spec =
+    tie.close
+    (tie.spec returns (λ c. search needs) (λ c κs. search needs) (λ c κs. search needs) (λ c κs. search needs) (λ c. search needs) returns-2)

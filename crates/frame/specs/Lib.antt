@@ -1,0 +1,4 @@
+-- What a reader must believe of frames.
+-- Assumes nothing.
+pub mod Digits
+pub mod Frames
