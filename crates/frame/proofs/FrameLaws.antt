@@ -1,4 +1,4 @@
--- Laws of reading and writing, one for each way through their definitions.
+-- Laws of reading and writingOf, one for each way through their definitions.
 -- Assumes nothing.
 use Prim.Native.Nat.{ℕ, suc, _+_, _%_, _<_, _≤_}
 use mathlib.Core.Path.{_≡_, refl, ap, ap₂, sym, _∙_}
@@ -10,9 +10,9 @@ use native.Mathlib.Omega.{arith}
 use lib.ListN.{length, getD, take, drop, length-append}
 use lib.Seq.{sets, sets-eq}
 use lib.Dec.{eqb}
-use borrow.Author.Tests.{eq-eqb, eqb-true, ne-eqb, le-leb, lt-leb, not-false}
+use borrow.Author.Tests.{eq-eqb, eqb-true, ne-eqb, le-ltb, lt-ltb, not-false}
 use Rattle.common.proofs.TestLaws.{or-right, or-true}
-use Rattle.frame.specs.Frames.{Told, Values, bodyIn, bytesIn, knownIn, noFrame, nothing, reading, table, total, valuesIn, writing}
+use Rattle.frame.specs.Frames.{Told, Values, body, frameBytes, known, notAFrame, nothing, reading, table, total, frameValues, writingOf}
 use Rattle.frame.specs.Digits.{bytesOf, numberOf, pack, sum, unpack}
 use Rattle.frame.proofs.DigitLaws.{length-bytesOf, numberOf-byte, unpack-at, unpack-none}
 use Rattle.frame.proofs.Stores.{sets-append}
@@ -20,48 +20,48 @@ use Rattle.frame.proofs.Stores.{sets-append}
 abbrev pub refused : Told
 refused = record { answer = 3; frame = nothing }
 
-pub reading-taken : (bs : List ℕ) → noFrame bs ≡ false → reading bs ≡ record { answer = 0; frame = valuesIn bs }
+pub reading-taken : (bs : List ℕ) → notAFrame bs ≡ false → reading bs ≡ record { answer = 0; frame = frameValues bs }
 unfolding reading
 reading-taken bs e = simp e
 
-pub reading-refused : (bs : List ℕ) → noFrame bs ≡ true → reading bs ≡ refused
+pub reading-refused : (bs : List ℕ) → notAFrame bs ≡ true → reading bs ≡ refused
 unfolding reading
 reading-refused bs e = simp e
 
-pub noFrame-empty : (bs : List ℕ) → length bs ≡ 0 → noFrame bs ≡ true
-unfolding noFrame
-noFrame-empty bs e = simp (eq-eqb _ _ e)
+pub notAFrame-empty : (bs : List ℕ) → length bs ≡ 0 → notAFrame bs ≡ true
+unfolding notAFrame
+notAFrame-empty bs e = simp (eq-eqb _ _ e)
 
-pub noFrame-unknown : (bs : List ℕ) → knownIn table (getD bs 0 0) ≡ false → noFrame bs ≡ true
-unfolding noFrame
-noFrame-unknown bs e = simp (e, or-true)
+pub notAFrame-unknown : (bs : List ℕ) → known table (getD bs 0 0) ≡ false → notAFrame bs ≡ true
+unfolding notAFrame
+notAFrame-unknown bs e = simp (e, or-true)
 
-pub noFrame-length : (bs : List ℕ) (k : ℕ) → getD bs 0 0 ≡ k → (length bs ≡ total k → ⊥) → noFrame bs ≡ true
-unfolding noFrame
-noFrame-length bs k e h = simp (e, ne-eqb _ _ h, or-true)
+pub notAFrame-length : (bs : List ℕ) (k : ℕ) → getD bs 0 0 ≡ k → (length bs ≡ total k → ⊥) → notAFrame bs ≡ true
+unfolding notAFrame
+notAFrame-length bs k e h = simp (e, ne-eqb _ _ h, or-true)
 
-noFrame-whole : (bs : List ℕ) (k : ℕ) → getD bs 0 0 ≡ k → knownIn table k ≡ true → length bs ≡ total k → noFrame bs ≡ false
-unfolding noFrame
-noFrame-whole bs k e h l = simp (e, h, eq-eqb _ _ l, ne-eqb (length bs) 0 (λ z. omega arith))
+notAFrame-whole : (bs : List ℕ) (k : ℕ) → getD bs 0 0 ≡ k → known table k ≡ true → length bs ≡ total k → notAFrame bs ≡ false
+unfolding notAFrame
+notAFrame-whole bs k e h l = simp (e, h, eq-eqb _ _ l, ne-eqb (length bs) 0 (λ z. omega arith))
 
-pub reading-whole : (bs : List ℕ) (k : ℕ) → getD bs 0 0 ≡ k → knownIn table k ≡ true → length bs ≡ total k
-    → reading bs ≡ record { answer = 0; frame = record { kind = k; numbers = unpack (bodyIn table k) (drop 1 bs) } }
+pub reading-whole : (bs : List ℕ) (k : ℕ) → getD bs 0 0 ≡ k → known table k ≡ true → length bs ≡ total k
+    → reading bs ≡ record { answer = 0; frame = record { kind = k; numbers = unpack (body table k) (drop 1 bs) } }
 reading-whole bs k e h l =
-    reading-taken bs (noFrame-whole bs k e h l)
-    ∙ ap (λ (n : ℕ). record { answer = 0; frame = record { kind = n; numbers = unpack (bodyIn table n) (drop 1 bs) } }) e
+    reading-taken bs (notAFrame-whole bs k e h l)
+    ∙ ap (λ (n : ℕ). record { answer = 0; frame = record { kind = n; numbers = unpack (body table n) (drop 1 bs) } }) e
 
 -- a frame that is read is as long as its kind says
-pub noFrame-exact : (bs : List ℕ) → noFrame bs ≡ false → length bs ≡ total (getD bs 0 0)
-unfolding noFrame
-noFrame-exact bs e =
+pub notAFrame-exact : (bs : List ℕ) → notAFrame bs ≡ false → length bs ≡ total (getD bs 0 0)
+unfolding notAFrame
+notAFrame-exact bs e =
     eqb-true (length bs) (total (getD bs 0 0))
     (not-false (eqb (length bs) (total (getD bs 0 0)))
-    (or-right (not (knownIn table (getD bs 0 0))) _ (or-right (eqb (length bs) 0) _ e)))
+    (or-right (not (known table (getD bs 0 0))) _ (or-right (eqb (length bs) 0) _ e)))
 
 -- a whole frame of each kind, by the places of its numbers
 pub reading-multicast : (bs : List ℕ) → getD bs 0 0 ≡ 1 → length bs ≡ 6
     → reading bs ≡ record { answer = 0; frame = record { kind = 1; numbers = numberOf (take 4 (drop 1 bs)) ∷ getD bs 5 0 ∷ [] } }
-unfolding bodyIn knownIn sum
+unfolding body known sum
 reading-multicast bs e l =
     reading-whole bs 1 e refl l ∙ simp (unpack-at, unpack-none, numberOf-byte bs 5 (omega arith))
 
@@ -71,18 +71,18 @@ pub reading-propose : (bs : List ℕ) → getD bs 0 0 ≡ 2 → length bs ≡ 9
       answer = 0;
       frame = record { kind = 2; numbers = numberOf (take 4 (drop 1 bs)) ∷ getD bs 5 0 ∷ getD bs 6 0 ∷ numberOf (take 2 (drop 7 bs)) ∷ [] };
     }
-unfolding bodyIn knownIn sum
+unfolding body known sum
 reading-propose bs e l =
     reading-whole bs 2 e refl l ∙ simp (unpack-at, unpack-none, numberOf-byte bs 5 (omega arith), numberOf-byte bs 6 (omega arith))
 
-pub writing-short : (v : Values) (buf : List ℕ) → length buf < total (v .kind) → writing v buf ≡ record { answer = 2; count = 0; buffer = buf }
-unfolding writing
-writing-short v buf h = simp (lt-leb _ _ h)
+pub writing-short : (v : Values) (buf : List ℕ) → length buf < total (v .kind) → writingOf v buf ≡ record { answer = 2; written = 0; buffer = buf }
+unfolding writingOf
+writing-short v buf h = simp (lt-ltb _ _ h)
 
 pub writing-fits : (v : Values) (buf : List ℕ) → total (v .kind) ≤ length buf
-    → writing v buf ≡ record { answer = 0; count = total (v .kind); buffer = bytesIn v ++ drop (total (v .kind)) buf }
-unfolding writing
-writing-fits v buf h = simp (le-leb _ _ h)
+    → writingOf v buf ≡ record { answer = 0; written = total (v .kind); buffer = frameBytes v ++ drop (total (v .kind)) buf }
+unfolding writingOf
+writing-fits v buf h = simp (le-ltb _ _ h)
 
 -- numbers put one behind the other
 abbrev pub puts : List ℕ → ℕ → List ℕ → List ℕ → List ℕ
@@ -111,24 +111,24 @@ length-pack (w ∷ ws) (v ∷ vs) e =
     length-append (bytesOf w v) (pack ws vs)
     ∙ ap₂ _+_ (length-bytesOf w v) (length-pack ws vs (omega arith))
 
-pub length-bytesIn : (v : Values) → length (v .numbers) ≡ length (bodyIn table (v .kind)) → length (bytesIn v) ≡ total (v .kind)
-length-bytesIn v l = ap suc (length-pack (bodyIn table (v .kind)) (v .numbers) l) ∙ sym (one-add (sum (bodyIn table (v .kind))))
+pub length-frameBytes : (v : Values) → length (v .numbers) ≡ length (body table (v .kind)) → length (frameBytes v) ≡ total (v .kind)
+length-frameBytes v l = ap suc (length-pack (body table (v .kind)) (v .numbers) l) ∙ sym (one-add (sum (body table (v .kind))))
 
 kind-byte : (k : ℕ) → k < 256 → bytesOf 1 k ≡ k ∷ []
 unfolding bytesOf
 kind-byte k h = ap (λ (n : ℕ). n ∷ []) (ap (λ (n : ℕ). n % 256) (div-one k) ∙ mod-eq-of-lt h)
 
 -- the frame is put by its kind and its numbers, in a buffer that is long enough
-pub writing-puts : (v : Values) (buf : List ℕ) → v .kind < 256 → length (v .numbers) ≡ length (bodyIn table (v .kind)) → total (v .kind) ≤ length buf
-    → record { answer = 0; count = total (v .kind); buffer = puts buf 0 (1 ∷ bodyIn table (v .kind)) (v .kind ∷ v .numbers) } ≡ writing v buf
+pub writing-puts : (v : Values) (buf : List ℕ) → v .kind < 256 → length (v .numbers) ≡ length (body table (v .kind)) → total (v .kind) ≤ length buf
+    → record { answer = 0; written = total (v .kind); buffer = puts buf 0 (1 ∷ body table (v .kind)) (v .kind ∷ v .numbers) } ≡ writingOf v buf
 unfolding pack
 writing-puts v buf small l fits =
-    let body = bodyIn table (v .kind) in
-    let size = length-bytesIn v l in
-    let end : 0 + length (bytesIn v) ≡ total (v .kind) = omega arith in
-    let done : puts buf 0 (1 ∷ body) (v .kind ∷ v .numbers) ≡ bytesIn v ++ drop (total (v .kind)) buf =
+    let body = body table (v .kind) in
+    let size = length-frameBytes v l in
+    let end : 0 + length (frameBytes v) ≡ total (v .kind) = omega arith in
+    let done : puts buf 0 (1 ∷ body) (v .kind ∷ v .numbers) ≡ frameBytes v ++ drop (total (v .kind)) buf =
     puts-pack buf 0 (1 ∷ body) (v .kind ∷ v .numbers)
     ∙ ap (λ (k : List ℕ). sets buf 0 (k ++ pack body (v .numbers))) (kind-byte (v .kind) small)
-    ∙ sets-eq (bytesIn v) buf 0 (omega arith)
-    ∙ ap (λ (n : ℕ). bytesIn v ++ drop n buf) end in
-    ap (λ (b : List ℕ). record { answer = 0; count = total (v .kind); buffer = b }) done ∙ sym (writing-fits v buf fits)
+    ∙ sets-eq (frameBytes v) buf 0 (omega arith)
+    ∙ ap (λ (n : ℕ). frameBytes v ++ drop n buf) end in
+    ap (λ (b : List ℕ). record { answer = 0; written = total (v .kind); buffer = b }) done ∙ sym (writing-fits v buf fits)

@@ -1,19 +1,22 @@
 -- Document 01, "Frames": reading a written frame gives back its values; an accepted frame written again gives its bytes.
 -- Assumes nothing.
-use Prim.Native.Nat.{ℕ, suc, _^_, _≤_}
+use Prim.Native.Nat.{ℕ, suc, _^_, _<_, _≤_}
 use mathlib.Core.Path.{_≡_, refl, ap, ap₂, sym, _∙_}
 use mathlib.Core.List.{List, [], _∷_, _++_}
 use mathlib.Core.Bool.{true}
 use native.Mathlib.Omega.{arith}
-use lib.ListN.{length, getD, take, drop, length-take, length-drop, take-append-drop}
+use lib.ListN.{length, take, drop, length-take, length-drop, take-append-drop}
 use lib.Seq.{take-at, drop-at}
-use lib.Dec.{leb, ltb}
-use borrow.Author.Tests.{leb-false, leb-true, ltb-true}
+use lib.Dec.{ltb}
+use borrow.Author.Tests.{lt-ltb, ltb-false, ltb-true}
 use Rattle.common.proofs.TestLaws.{and-left, and-right, both, split}
 use Rattle.frame.specs.Digits.{bytesOf, numberOf, pack, unpack, sum, fitting}
-use Rattle.frame.specs.Frames.{Values, bodyIn, bytesIn, knownIn, noFrame, reading, table, total, valuesIn, writing}
+use Rattle.frame.specs.Frames.{Values, body, frameBytes, frameValues, kindIn, known, notAFrame, reading, table, told, total, valuesOf, writing, writingOf}
+use Rattle.frame.specs.declared.Frame.{Frame}
+use Rattle.frame.specs.declared.Frame.the-variants.{Multicast, Propose}
+use Rattle.frame.specs.declared.ReadAnswer.the-variants.{Accepted}
 use Rattle.frame.proofs.DigitLaws.{Bytes, bytes-drop, bytes-take, bytesOf-numberOf, length-bytesOf, numberOf-kept}
-use Rattle.frame.proofs.FrameLaws.{length-bytesIn, noFrame-exact, reading-refused, reading-taken, reading-whole, writing-fits, writing-short}
+use Rattle.frame.proofs.FrameLaws.{length-frameBytes, notAFrame-exact, reading-refused, reading-taken, reading-whole, writing-fits, writing-short}
 
 fitting-length : (ws vs : List ℕ) → fitting ws vs ≡ true → length vs ≡ length ws
 unfolding fitting
@@ -45,31 +48,56 @@ pack-unpack (w ∷ ws) bs h e =
     (pack-unpack ws (drop w bs) (bytes-drop w bs h) (simp length-drop (omega arith)))
     ∙ take-append-drop w bs
 
--- a frame of a known kind whose numbers have room, written in any buffer that takes it, and read from there
-pub written-read : (v : Values) (buf : List ℕ) → knownIn table (v .kind) ≡ true → fitting (bodyIn table (v .kind)) (v .numbers) ≡ true
-    → writing v buf .answer ≡ 0
-    → reading (take (writing v buf .count) (writing v buf .buffer)) ≡ record { answer = 0; frame = v }
-written-read v buf k f w =
-    let size = length-bytesIn v (fitting-length (bodyIn table (v .kind)) (v .numbers) f) in
-    split (leb (total (v .kind)) (length buf))
-    (λ t. let fits = writing-fits v buf (leb-true _ _ t) in
+values-again : (v : Values) (buf : List ℕ) → known table (v .kind) ≡ true → fitting (body table (v .kind)) (v .numbers) ≡ true
+    → writingOf v buf .answer ≡ 0
+    → reading (take (writingOf v buf .written) (writingOf v buf .buffer)) ≡ record { answer = 0; frame = v }
+values-again v buf k f w =
+    let size = length-frameBytes v (fitting-length (body table (v .kind)) (v .numbers) f) in
+    split (ltb (length buf) (total (v .kind)))
+    (λ t. let z : _≡_ {A = ℕ} 2 0 = sym (ap (λ o. o .answer) (writing-short v buf (ltb-true _ _ t))) ∙ w in absurd (omega arith))
+    (λ t. let fits = writing-fits v buf (ltb-false _ _ t) in
     ap reading
-    (ap₂ take (ap (λ o. o .count) fits) (ap (λ o. o .buffer) fits) ∙ take-at (bytesIn v) (drop (total (v .kind)) buf) (total (v .kind)) size)
-    ∙ reading-whole (bytesIn v) (v .kind) refl k size
-    ∙ ap (λ ns. record { answer = 0; frame = record { kind = v .kind; numbers = ns } }) (unpack-pack (bodyIn table (v .kind)) (v .numbers) f))
-    (λ t. let z : _≡_ {A = ℕ} 2 0 = sym (ap (λ o. o .answer) (writing-short v buf (leb-false _ _ t))) ∙ w in absurd (omega arith))
+    (ap₂ take (ap (λ o. o .written) fits) (ap (λ o. o .buffer) fits) ∙ take-at (frameBytes v) (drop (total (v .kind)) buf) (total (v .kind)) size)
+    ∙ reading-whole (frameBytes v) (v .kind) refl k size
+    ∙ ap (λ ns. record { answer = 0; frame = record { kind = v .kind; numbers = ns } }) (unpack-pack (body table (v .kind)) (v .numbers) f))
 
-bytes-again : (bs : List ℕ) → Bytes bs → length bs ≡ total (getD bs 0 0) → bytesIn (valuesIn bs) ≡ bs
+bytes-again : (bs : List ℕ) → Bytes bs → length bs ≡ total (kindIn bs) → frameBytes (frameValues bs) ≡ bs
 bytes-again [] h e = absurd (omega arith)
-bytes-again (b ∷ bs) h e = ap (λ cs. b ∷ cs) (pack-unpack (bodyIn table b) bs (λ i. h (suc i)) (omega arith))
+bytes-again (b ∷ bs) h e = ap (λ cs. b ∷ cs) (pack-unpack (body table b) bs (λ i. h (suc i)) (omega arith))
 
--- a frame that was accepted, written again in any buffer that takes it
-pub read-written : (bs buf : List ℕ) → Bytes bs → reading bs .answer ≡ 0 → length bs ≤ length buf
-    → writing (reading bs .frame) buf ≡ record { answer = 0; count = length bs; buffer = bs ++ drop (length bs) buf }
-read-written bs buf h r l =
-    split (noFrame bs)
-    (λ t. let z : _≡_ {A = ℕ} 3 0 = sym (ap (λ o. o .answer) (reading-refused bs t)) ∙ r in absurd (omega arith))
-    (λ t. let size = noFrame-exact bs t in
-    ap (λ o. writing (o .frame) buf) (reading-taken bs t)
-    ∙ writing-fits (valuesIn bs) buf (omega arith)
-    ∙ ap₂ (λ n cs. record { answer = 0; count = n; buffer = cs ++ drop n buf }) (sym size) (bytes-again bs h size))
+-- what the types say of a frame's numbers
+abbrev pub Typed : Frame → Type 0
+Typed (Multicast payment destinations) = (payment .0 < 2 ^ 32) × (destinations < 2 ^ 8)
+Typed (Propose payment destinations source time) =
+    (payment .0 < 2 ^ 32) × (destinations < 2 ^ 8) × (source .0 < 2 ^ 8) × (time .0 < 2 ^ 16)
+
+typed-known : (f : Frame) → known table (valuesOf f .kind) ≡ true
+unfolding known
+typed-known (Multicast p d) = refl
+typed-known (Propose p d s t) = refl
+
+typed-fitting : (f : Frame) → Typed f → fitting (body table (valuesOf f .kind)) (valuesOf f .numbers) ≡ true
+unfolding body fitting
+typed-fitting (Multicast p d) h = simp (lt-ltb _ _ (h .0), lt-ltb _ _ (h .1))
+typed-fitting (Propose p d s t) h = simp (lt-ltb _ _ (h .0), lt-ltb _ _ (h .1), lt-ltb _ _ (h .2), lt-ltb _ _ (h .3))
+
+-- reading a written frame gives back its values
+pub written-read : (frame : Frame) (buffer : List ℕ) → Typed frame → writing frame buffer .answer ≡ 0
+    → reading (take (writing frame buffer .written) (writing frame buffer .buffer)) ≡ told (Accepted frame)
+written-read frame buffer h w = values-again (valuesOf frame) buffer (typed-known frame) (typed-fitting frame h) w
+
+-- an accepted frame written again gives its bytes
+pub read-written : (bytes buffer : List ℕ) (frame : Frame) → Bytes bytes → told (Accepted frame) ≡ reading bytes → length bytes ≤ length buffer
+    → writing frame buffer ≡ record { answer = 0; written = length bytes; buffer = bytes ++ drop (length bytes) buffer }
+read-written bytes buffer frame h r l =
+    split (notAFrame bytes)
+    (λ t. let z : _≡_ {A = ℕ} 0 3 = ap (λ o. o .answer) (r ∙ reading-refused bytes t) in absurd (omega arith))
+    (λ t. let size = notAFrame-exact bytes t in
+    ap (λ o. writingOf (o .frame) buffer) (r ∙ reading-taken bytes t)
+    ∙ writing-fits (frameValues bytes) buffer (omega arith)
+    ∙ ap₂ (λ n cs. record { answer = 0; written = n; buffer = cs ++ drop n buffer }) (sym size) (bytes-again bytes h size))
+
+-- the totals of the table
+pub totals : (total 1 ≡ 6) × (total 2 ≡ 9)
+unfolding body sum
+totals = (refl, refl)

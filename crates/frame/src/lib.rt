@@ -1,10 +1,10 @@
-// Frames: the three kinds of number that cannot be mixed up, and the reading and writing of frames (document 01, "Frames").
+// Frames: the three number types that cannot be mixed up, and the reading and writing of frames (document 01, "Frames").
 ghost use mathlib.Core.Path.{_≡_};
 ghost use Prim.Native.Nat.{ℕ, _+_, _≤_, _<_};
 ghost use lib.Seq.{sets};
 ghost use lib.ListN.{length};
 ghost use Rattle.frame.specs.Digits.{bytesOf, numberOf};
-ghost use Rattle.frame.specs.Frames.{told, reading, left, writing, valuesOf};
+ghost use Rattle.frame.specs.Frames.{told, reading, wrote, writing};
 
 pub struct LedgerNo(pub u8);
 
@@ -27,8 +27,8 @@ pub enum Frame {
 
 // What reading finds: answer 0 or 3.
 pub enum ReadAnswer {
-    Taken(Frame),
-    NoFrame,
+    Accepted(Frame),
+    NotAFrame,
 }
 
 // What writing did: answer 0, with the number of bytes, or answer 2.
@@ -73,40 +73,40 @@ fn put(buffer: &mut [u8], at: usize, width: usize, value: u32) -> usize
     at + width
 }
 
-// The frame that bytes hold, or that they hold none. It judges no value.
+// The frame that bytes hold, or the answer that they hold none. It judges no value.
 pub fn read(bytes: &[u8]) -> ReadAnswer
     ensures { λ r. ⌜ told r ≡ reading (now (bytes .entry)) ⌝ }
 {
     let n = bytes.len();
     if n == 0 {
-        return ReadAnswer::NoFrame;
+        return ReadAnswer::NotAFrame;
     }
     let kind = bytes[0];
     if kind == MULTICAST {
         if n != MULTICAST_TOTAL {
-            return ReadAnswer::NoFrame;
+            return ReadAnswer::NotAFrame;
         }
-        return ReadAnswer::Taken(Frame::Multicast {
+        return ReadAnswer::Accepted(Frame::Multicast {
             payment: PaymentNo(number(&bytes[1..5])),
             destinations: bytes[5],
         });
     }
     if kind == PROPOSE {
         if n != PROPOSE_TOTAL {
-            return ReadAnswer::NoFrame;
+            return ReadAnswer::NotAFrame;
         }
-        return ReadAnswer::Taken(Frame::Propose {
+        return ReadAnswer::Accepted(Frame::Propose {
             payment: PaymentNo(number(&bytes[1..5])),
             destinations: bytes[5],
             source: LedgerNo(bytes[6]),
             time: Time(number(&bytes[7..9]) as u16),
         });
     }
-    ReadAnswer::NoFrame
+    ReadAnswer::NotAFrame
 }
 
 fn write_multicast(payment: PaymentNo, destinations: u8, buffer: &mut [u8]) -> WriteAnswer
-    ensures { λ r. ⌜ left r (now (buffer .exit)) ≡ writing (valuesOf (Frame.Multicast payment destinations)) (now (buffer .entry)) ⌝ }
+    ensures { λ r. ⌜ wrote r (now (buffer .exit)) ≡ writing (Frame.Multicast payment destinations) (now (buffer .entry)) ⌝ }
 {
     if buffer.len() < MULTICAST_TOTAL {
         return WriteAnswer::TooShort;
@@ -123,7 +123,7 @@ fn write_propose(
     time: Time,
     buffer: &mut [u8],
 ) -> WriteAnswer
-    ensures { λ r. ⌜ left r (now (buffer .exit)) ≡ writing (valuesOf (Frame.Propose payment destinations source time)) (now (buffer .entry)) ⌝ }
+    ensures { λ r. ⌜ wrote r (now (buffer .exit)) ≡ writing (Frame.Propose payment destinations source time) (now (buffer .entry)) ⌝ }
 {
     if buffer.len() < PROPOSE_TOTAL {
         return WriteAnswer::TooShort;
@@ -137,7 +137,7 @@ fn write_propose(
 
 // Writes a frame from the buffer's first byte on, or nothing where the buffer is shorter than the frame.
 pub fn write(frame: Frame, buffer: &mut [u8]) -> WriteAnswer
-    ensures { λ r. ⌜ left r (now (buffer .exit)) ≡ writing (valuesOf frame) (now (buffer .entry)) ⌝ }
+    ensures { λ r. ⌜ wrote r (now (buffer .exit)) ≡ writing frame (now (buffer .entry)) ⌝ }
 {
     match frame {
         Frame::Multicast {

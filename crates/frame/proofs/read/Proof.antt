@@ -6,19 +6,19 @@ use borrow.Author.Tests.{ne-eqb}
 use denote.Ref.{now}
 use lib.ListN.{length, getD, take, drop, length-take, length-drop}
 use Rattle.frame.specs.Digits.{numberOf, sum}
-use Rattle.frame.specs.Frames.{bodyIn, knownIn}
+use Rattle.frame.specs.Frames.{body, known}
 use Rattle.frame.proofs.DigitLaws.{Bytes, bytes-drop, bytes-take, numberOf-lt}
-use Rattle.frame.proofs.FrameLaws.{noFrame-empty, noFrame-length, noFrame-unknown, reading-multicast, reading-propose, reading-refused}
+use Rattle.frame.proofs.FrameLaws.{notAFrame-empty, notAFrame-length, notAFrame-unknown, reading-multicast, reading-propose, reading-refused}
 use borrow.Author.Needs.{needs}
 use Rattle.frame.proofs.read.Statement.{statement}
 use Rattle.frame.proofs.read.Tie as tie
 
 returns : tie.Need-returns
-returns c = sym (reading-refused _ (noFrame-empty _ (c .if1 .taken)))
+returns c = sym (reading-refused _ (notAFrame-empty _ (c .if1 .taken)))
 
 returns-2 : tie.Need-returns-2
-unfolding bodyIn sum
-returns-2 c = sym (reading-refused _ (noFrame-length _ 1 (omega arith) (λ e. c .if3 .taken e)))
+unfolding body sum
+returns-2 c = sym (reading-refused _ (notAFrame-length _ 1 (omega arith) (λ e. c .if3 .taken e)))
 
 returns-3 : tie.Need-returns-3
 returns-3 c =
@@ -27,8 +27,8 @@ returns-3 c =
     ∙ sym (reading-multicast _ (omega arith) (omega arith))
 
 returns-4 : tie.Need-returns-4
-unfolding bodyIn sum
-returns-4 c = sym (reading-refused _ (noFrame-length _ 2 (omega arith) (λ e. c .if5 .taken e)))
+unfolding body sum
+returns-4 c = sym (reading-refused _ (notAFrame-length _ 2 (omega arith) (λ e. c .if5 .taken e)))
 
 cast-t34 : tie.Need-cast-t34
 cast-t34 c =
@@ -48,8 +48,8 @@ returns-5 c =
     ∙ sym (reading-propose _ (omega arith) (omega arith))
 
 returns-6 : tie.Need-returns-6
-unfolding knownIn
-returns-6 c = sym (reading-refused _ (noFrame-unknown _ (simp (ne-eqb _ _ (c .before .if2 .left), ne-eqb _ _ (c .if4 .left)))))
+unfolding known
+returns-6 c = sym (reading-refused _ (notAFrame-unknown _ (simp (ne-eqb _ _ (c .before .if2 .left), ne-eqb _ _ (c .if4 .left)))))
 
 pub read-spec : {M : Type 1} → statement M
 read-spec =

@@ -1,15 +1,15 @@
 use mathlib.Core.Path.{ap, sym, _∙_}
 use denote.Ref.{now}
-use Rattle.frame.specs.Frames.{valuesOf, writing}
+use Rattle.frame.specs.Frames.{valuesOf, writingOf}
 use borrow.Author.Needs.{needs}
 use Rattle.frame.proofs.write.Statement.{statement}
 use Rattle.frame.proofs.write.Tie as tie
 
 returns : tie.Need-returns
-returns c = c .before .before .write-multicast .ensures ∙ sym (ap (λ f. writing (valuesOf f) (now (c .before .before .before .before .before .before .before .before .args .buffer))) (c .before .before .before .before .before .frame .given .1))
+returns c = c .before .before .write-multicast .ensures ∙ sym (ap (λ f. writingOf (valuesOf f) (now (c .before .before .before .before .before .before .before .before .args .buffer))) (c .before .before .before .before .before .frame .given .1))
 
 returns-2 : tie.Need-returns-2
-returns-2 c = c .before .before .write-propose .ensures ∙ sym (ap (λ f. writing (valuesOf f) (now (c .before .before .before .before .before .before .before .before .args .buffer))) (c .before .before .before .before .before .frame2 .given .1))
+returns-2 c = c .before .before .write-propose .ensures ∙ sym (ap (λ f. writingOf (valuesOf f) (now (c .before .before .before .before .before .before .before .before .args .buffer))) (c .before .before .before .before .before .frame2 .given .1))
 
 pub write-spec : {M : Type 1} → statement M
 write-spec =

@@ -1,7 +1,7 @@
 use mathlib.Core.Path.{_≡_, refl, ap₂, sym, _∙_}
 use native.Mathlib.Omega.{arith}
 use Rattle.frame.specs.Digits.{sum}
-use Rattle.frame.specs.Frames.{bodyIn, valuesOf}
+use Rattle.frame.specs.Frames.{body, valuesOf}
 use Rattle.frame.specs.declared.Frame.the-variants.{Multicast}
 use denote.Ref.{now}
 use Rattle.frame.proofs.FrameLaws.{then-put, writing-puts, writing-short}
@@ -10,11 +10,11 @@ use Rattle.frame.proofs.write_multicast.Statement.{statement}
 use Rattle.frame.proofs.write_multicast.Tie as tie
 
 returns : tie.Need-returns
-unfolding bodyIn sum
+unfolding body sum
 returns c = sym (writing-short _ _ (c .if1 .taken))
 
 returns-2 : tie.Need-returns-2
-unfolding bodyIn sum
+unfolding body sum
 returns-2 c =
     let third = c .before .before in
     let second = third .before .before .before .before in
@@ -22,7 +22,7 @@ returns-2 c =
     let a = first .before .before .before .before .args in
     let paid : second .put2 .result ≡ 5 = omega arith in
     let sent : third .put3 .result ≡ 6 = omega arith in
-    ap₂ (λ n b. record { answer = 0; count = n; buffer = b }) sent
+    ap₂ (λ n b. record { answer = 0; written = n; buffer = b }) sent
     (then-put 1 (a .destinations)
     (then-put 4 (a .payment .0) (first .put .ensures .1) (first .put .ensures .0) (second .put2 .ensures .1))
     paid

@@ -1,7 +1,7 @@
 use mathlib.Core.Path.{_≡_, refl, ap₂, sym, _∙_}
 use native.Mathlib.Omega.{arith}
 use Rattle.frame.specs.Digits.{sum}
-use Rattle.frame.specs.Frames.{bodyIn, valuesOf}
+use Rattle.frame.specs.Frames.{body, valuesOf}
 use Rattle.frame.specs.declared.Frame.the-variants.{Propose}
 use denote.Ref.{now}
 use Rattle.frame.proofs.FrameLaws.{then-put, writing-puts, writing-short}
@@ -10,11 +10,11 @@ use Rattle.frame.proofs.write_propose.Statement.{statement}
 use Rattle.frame.proofs.write_propose.Tie as tie
 
 returns : tie.Need-returns
-unfolding bodyIn sum
+unfolding body sum
 returns c = sym (writing-short _ _ (c .if1 .taken))
 
 returns-2 : tie.Need-returns-2
-unfolding bodyIn sum
+unfolding body sum
 returns-2 c =
     let fifth = c .before .before in
     let fourth = fifth .before .before .before .before .before in
@@ -26,7 +26,7 @@ returns-2 c =
     let sent : third .put3 .result ≡ 6 = omega arith in
     let from : fourth .put4 .result ≡ 7 = omega arith in
     let done : fifth .put5 .result ≡ 9 = omega arith in
-    ap₂ (λ n b. record { answer = 0; count = n; buffer = b }) done
+    ap₂ (λ n b. record { answer = 0; written = n; buffer = b }) done
     (then-put 2 (a .time .0)
     (then-put 1 (a .source .0)
     (then-put 1 (a .destinations)
