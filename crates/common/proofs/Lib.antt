@@ -2,3 +2,5 @@
 -- Assumes nothing.
 pub mod TestLaws
 pub mod PlaceLaws
+pub mod OrderLaws
+pub mod ByteLaws

@@ -1,6 +1,6 @@
 -- Laws of tests.
 -- Assumes nothing.
-use mathlib.Core.Path.{_≡_, refl, sym, _∙_}
+use mathlib.Core.Path.{_≡_, refl, ap, sym, _∙_}
 use mathlib.Core.Bool.{Bool, true, false, not, _&&_, _||_, true≢false}
 use mathlib.Core.Logic.{_⊎_, inl, inr}
 
@@ -28,9 +28,17 @@ pub and-false : (a : Bool) → a && false ≡ false
 and-false true = refl
 and-false false = refl
 
+pub and-true : (a : Bool) → a && true ≡ a
+and-true true = refl
+and-true false = refl
+
 pub or-true : (a : Bool) → a || true ≡ true
 or-true true = refl
 or-true false = refl
+
+pub or-false : (a : Bool) → a || false ≡ a
+or-false true = refl
+or-false false = refl
 
 pub or-left : (a b : Bool) → a || b ≡ false → a ≡ false
 or-left true b e = e
@@ -46,3 +54,22 @@ or-cases false b e = inr e
 
 pub not-true : (b : Bool) → b ≡ false → not b ≡ true
 not-true b e = simp e
+
+-- two tests that hold together are the same
+pub same : (a b : Bool) → (a ≡ true → b ≡ true) → (b ≡ true → a ≡ true) → a ≡ b
+same true b f g = sym (f refl)
+same false true f g = both (g refl) refl
+same false false f g = refl
+
+-- what the first test leaves to the second
+pub and-go : {a : Bool} (b : Bool) → a ≡ true → a && b ≡ b
+and-go b e = ap (λ x. x && b) e
+
+pub and-stop : {a : Bool} (b : Bool) → a ≡ false → a && b ≡ false
+and-stop b e = ap (λ x. x && b) e
+
+pub or-go : {a : Bool} (b : Bool) → a ≡ false → a || b ≡ b
+or-go b e = ap (λ x. x || b) e
+
+pub or-stop : {a : Bool} (b : Bool) → a ≡ true → a || b ≡ true
+or-stop b e = ap (λ x. x || b) e

@@ -2,3 +2,4 @@
 -- Assumes nothing.
 pub mod Places
 pub mod Bits
+pub mod Order

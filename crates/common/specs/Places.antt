@@ -1,6 +1,7 @@
 -- Tests of all the places below a bound.
 -- Assumes nothing.
 use Prim.Native.Nat.{ℕ, zero, suc, _+_}
+use mathlib.Core.List.{List, [], _∷_, _++_}
 use mathlib.Core.Bool.{Bool, true, false, cond, _&&_, _||_}
 
 -- f holds at every place below n
@@ -22,3 +23,8 @@ count (suc n) f = cond (f n) 1 0 + count n f
 unfoldable pub first : ℕ → (ℕ → Bool) → ℕ
 first zero f = 0
 first (suc n) f = cond (any n f) (first n f) (cond (f n) n (suc n))
+
+-- the list of what f gives at the places below n
+unfoldable pub listed {ℓ} : {A : Type ℓ} → ℕ → (ℕ → A) → List A
+listed zero f = []
+listed (suc n) f = listed n f ++ (f n ∷ [])

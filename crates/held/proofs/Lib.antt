@@ -1,0 +1,5 @@
+-- Laws of the definitions in specs/.
+-- Assumes nothing.
+pub mod CheckedLaws
+pub mod FreeLaws
+pub mod PostLaws

@@ -1,0 +1,37 @@
+-- Document 01, "What a ledger keeps": the payments that a ledger holds, each at its place.
+-- Assumes nothing.
+use Prim.Native.Nat.{ℕ}
+use mathlib.Core.List.{List, []}
+use mathlib.Core.Bool.{Bool, not, _&&_}
+use lib.ListN.{getD}
+use lib.Dec.{eqb}
+use Rattle.common.specs.Places.{any, first}
+use Rattle.payment.specs.Payments.{keeps}
+use Rattle.payment.specs.declared.Payment.{Payment}
+
+-- a ledger holds at most 32 payments
+abbrev pub limit : ℕ
+limit = 32
+
+abbrev pub noPayment : Payment
+noPayment = record { number = record { 0 = 0 }; destinations = 0; heard = 0; times = []; phase = 0 }
+
+-- the payment at a place
+abbrev pub at : List Payment → ℕ → Payment
+at payments i = getD payments i noPayment
+
+-- the payment at a place has this number
+abbrev pub isNumber : List Payment → ℕ → ℕ → Bool
+isNumber payments number i = eqb (at payments i .number .0) number
+
+-- a payment of this number is held
+abbrev pub holds : List Payment → ℕ → Bool
+holds payments number = any limit (isNumber payments number)
+
+-- the place of the payment of this number; the limit where it is not held
+abbrev pub placeOf : List Payment → ℕ → ℕ
+placeOf payments number = first limit (isNumber payments number)
+
+-- ledger k's time t is held for another payment than this number's, as a proposal or in a stamp
+abbrev pub timeTaken : List Payment → ℕ → ℕ → ℕ → Bool
+timeTaken payments number k t = any limit (λ i. not (isNumber payments number i) && keeps (at payments i) k t)

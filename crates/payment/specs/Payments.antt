@@ -1,0 +1,115 @@
+-- Document 01, "What a ledger keeps": what is kept for each payment, and what soundness says of one payment and of two.
+-- Assumes nothing.
+use Prim.Native.Nat.{ℕ, zero, suc, _^_}
+use mathlib.Core.List.{List}
+use mathlib.Core.Bool.{Bool, cond, not, _&&_, _||_}
+use lib.ListN.{getD, set}
+use lib.Dec.{eqb, leb, ltb}
+use Rattle.frame.specs.declared.Time.{Time}
+use Rattle.payment.specs.Ledgers.{has, with}
+use Rattle.payment.specs.Stamps.{below}
+use Rattle.payment.specs.declared.Stamp.{Stamp}
+use Rattle.payment.specs.declared.Payment.{Payment}
+
+-- times run from 1 to 60,000
+abbrev pub lastTime : ℕ
+lastTime = 60000
+
+abbrev pub isTime : ℕ → Bool
+isTime t = leb 1 t && leb t lastTime
+
+abbrev pub noTime : Time
+noTime = record { 0 = 0 }
+
+abbrev pub noStamp : Stamp
+noStamp = record { time = noTime; ledger = record { 0 = 0 } }
+
+-- the time kept from ledger k; ledgers are 1 to 8
+unfoldable pub timeIn : List Time → ℕ → Time
+timeIn times zero = noTime
+timeIn times (suc k) = cond (ltb k 8) (getD times k noTime) noTime
+
+-- the proposal of ledger k, as a stamp: its time with its number
+abbrev pub proposal : List Time → ℕ → Stamp
+proposal times k = record { time = timeIn times k; ledger = record { 0 = k } }
+
+-- the greatest proposal of those heard from the ledgers 1 to k
+unfoldable pub greatest : List Time → ℕ → ℕ → Stamp
+greatest times heard zero = noStamp
+greatest times heard (suc k) =
+    let best = greatest times heard k in
+    cond (has heard (suc k) && below best (proposal times (suc k))) (proposal times (suc k)) best
+
+-- every destination's proposed time is kept, with which ones were heard
+abbrev pub heardFrom : Payment → ℕ → Bool
+heardFrom p k = has (p .heard) k
+
+abbrev pub timeFrom : Payment → ℕ → ℕ
+timeFrom p k = timeIn (p .times) k .0
+
+-- the stamp is the greatest proposal
+abbrev pub stampOf : Payment → Stamp
+stampOf p = greatest (p .times) (p .heard) 8
+
+-- every destination is heard (heard ones are destinations)
+abbrev pub allHeard : Payment → Bool
+allHeard p = eqb (p .heard) (p .destinations)
+
+-- phases: waiting, proposed, stamped, posted
+abbrev pub waiting : ℕ
+waiting = 0
+
+abbrev pub proposed : ℕ
+proposed = 1
+
+abbrev pub stamped : ℕ
+stamped = 2
+
+abbrev pub posted : ℕ
+posted = 3
+
+abbrev pub isWaiting : Payment → Bool
+isWaiting p = eqb (p .phase) waiting
+
+abbrev pub isProposed : Payment → Bool
+isProposed p = eqb (p .phase) proposed
+
+abbrev pub isStamped : Payment → Bool
+isStamped p = eqb (p .phase) stamped
+
+abbrev pub isPosted : Payment → Bool
+isPosted p = eqb (p .phase) posted
+
+abbrev pub hasStamp : Payment → Bool
+hasStamp p = isStamped p || isPosted p
+
+-- the payment's stamp is of ledger k, a ledger being at least 1
+abbrev pub stampFrom : Payment → ℕ → Bool
+stampFrom p k = hasStamp p && (leb 1 k && eqb (stampOf p .ledger .0) k)
+
+-- ledger k's time t is held for the payment as a proposal
+abbrev pub proposes : Payment → ℕ → ℕ → Bool
+proposes p k t = heardFrom p k && eqb (timeFrom p k) t
+
+-- ledger k's time t is held for the payment, as a proposal or in a stamp
+abbrev pub keeps : Payment → ℕ → ℕ → Bool
+keeps p k t = proposes p k t || stampFrom p k && eqb (stampOf p .time .0) t
+
+-- the payment with ledger k's time kept
+unfoldable pub hear : Payment → ℕ → Time → Payment
+hear p zero t = p
+hear p (suc k) t =
+    cond (ltb k 8)
+    (record {
+      number = p .number;
+      destinations = p .destinations;
+      heard = with (p .heard) (suc k);
+      times = set (p .times) k t;
+      phase = p .phase;
+    })
+    p
+
+-- destinations empty, beyond N, or without this ledger
+unfoldable pub unlawful : ℕ → ℕ → ℕ → Bool
+unlawful group own destinations =
+    eqb destinations 0 || (leb (2 ^ group) destinations || not (has destinations own))
