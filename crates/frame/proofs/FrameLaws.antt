@@ -11,8 +11,10 @@ use lib.ListN.{length, getD, take, drop, length-append}
 use lib.Seq.{sets, sets-eq}
 use lib.Dec.{eqb}
 use borrow.Author.Tests.{eq-eqb, eqb-true, ne-eqb, le-ltb, lt-ltb, not-false}
-use Rattle.common.proofs.TestLaws.{or-right, or-true}
-use Rattle.frame.specs.Frames.{Told, Values, body, frameBytes, known, notAFrame, nothing, reading, table, total, frameValues, writingOf}
+use Rattle.common.proofs.TestLaws.{or-right, or-true, split}
+use Rattle.frame.specs.Frames.{Told, Values, body, frameBytes, frameValues, known, notAFrame, nothing, reading, table, total, writingOf, wrote}
+use Rattle.frame.specs.declared.WriteAnswer.{WriteAnswer}
+use Rattle.frame.specs.declared.WriteAnswer.the-variants.{Written, TooShort}
 use Rattle.frame.specs.Digits.{bytesOf, numberOf, pack, sum, unpack}
 use Rattle.frame.proofs.DigitLaws.{length-bytesOf, numberOf-byte, unpack-at, unpack-none}
 use Rattle.frame.proofs.Stores.{sets-append}
@@ -132,3 +134,20 @@ writing-puts v buf small l fits =
     ∙ sets-eq (frameBytes v) buf 0 (omega arith)
     ∙ ap (λ (n : ℕ). frameBytes v ++ drop n buf) end in
     ap (λ (b : List ℕ). record { answer = 0; written = total (v .kind); buffer = b }) done ∙ sym (writing-fits v buf fits)
+
+-- whatever the answer, what stands in the buffer is what is told of it
+pub wrote-buffer : (r : WriteAnswer) (buffer : List ℕ) → wrote r buffer .buffer ≡ buffer
+wrote-buffer (Written n) buffer = refl
+wrote-buffer TooShort buffer = refl
+
+-- what is told of a reading, by its answer
+pub told-refused : (bs : List ℕ) (o : Told) → o ≡ reading bs → o .answer ≡ 3 → notAFrame bs ≡ true
+told-refused bs o e a =
+    split (notAFrame bs) (λ t. t)
+    (λ t. let answers : _≡_ {A = ℕ} 0 3 = sym (ap (λ o. o .answer) (e ∙ reading-taken bs t)) ∙ a in absurd (omega arith))
+
+pub told-accepted : (bs : List ℕ) (o : Told) → o ≡ reading bs → o .answer ≡ 0 → (notAFrame bs ≡ false) × (frameValues bs ≡ o .frame)
+told-accepted bs o e a =
+    split (notAFrame bs)
+    (λ t. let answers : _≡_ {A = ℕ} 3 0 = sym (ap (λ o. o .answer) (e ∙ reading-refused bs t)) ∙ a in absurd (omega arith))
+    (λ t. (t, sym (ap (λ o. o .frame) (e ∙ reading-taken bs t))))

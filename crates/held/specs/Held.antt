@@ -4,7 +4,7 @@ use Prim.Native.Nat.{ℕ}
 use mathlib.Core.List.{List, []}
 use mathlib.Core.Bool.{Bool, not, _&&_}
 use lib.ListN.{getD}
-use lib.Dec.{eqb}
+use lib.Dec.{eqb, ltb}
 use Rattle.common.specs.Places.{any, first}
 use Rattle.payment.specs.Payments.{keeps}
 use Rattle.payment.specs.declared.Payment.{Payment}
@@ -24,13 +24,13 @@ at payments i = getD payments i noPayment
 abbrev pub isNumber : List Payment → ℕ → ℕ → Bool
 isNumber payments number i = eqb (at payments i .number .0) number
 
--- a payment of this number is held
-abbrev pub holds : List Payment → ℕ → Bool
-holds payments number = any limit (isNumber payments number)
-
 -- the place of the payment of this number; the limit where it is not held
 abbrev pub placeOf : List Payment → ℕ → ℕ
 placeOf payments number = first limit (isNumber payments number)
+
+-- a payment of this number is held
+abbrev pub holds : List Payment → ℕ → Bool
+holds payments number = ltb (placeOf payments number) limit
 
 -- ledger k's time t is held for another payment than this number's, as a proposal or in a stamp
 abbrev pub timeTaken : List Payment → ℕ → ℕ → ℕ → Bool

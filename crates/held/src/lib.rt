@@ -33,17 +33,6 @@ pub fn find(payments: [Payment; HELD], number: PaymentNo) -> usize
     HELD
 }
 
-// Whether a ledger's time is kept for a payment.
-fn is_kept(p: Payment, ledger: LedgerNo, time: Time) -> bool
-    ensures { λ r. ⌜ r ≡ keeps p (ledger .0) (time .0) ⌝ }
-{
-    let times = p.times;
-    if payment::among(p.heard, ledger) {
-        return payment::time_in(times, ledger).0 == time.0;
-    }
-    false
-}
-
 // Whether a ledger's time is held for a payment, and the payment is another than that of a number.
 fn takes(p: Payment, number: PaymentNo, ledger: LedgerNo, time: Time) -> bool
     ensures { λ r. ⌜ r ≡ not (eqb (p .number .0) (number .0)) && keeps p (ledger .0) (time .0) ⌝ }
@@ -51,7 +40,7 @@ fn takes(p: Payment, number: PaymentNo, ledger: LedgerNo, time: Time) -> bool
     if p.number.0 == number.0 {
         return false;
     }
-    is_kept(p, ledger, time)
+    p.has_proposal(ledger, time)
 }
 
 // Whether a ledger's time is held for another payment than that of a number.

@@ -267,16 +267,24 @@ impl Payment {
         self.heard_right()
     }
 
+    // Whether a ledger's time is held for the payment as a proposal.
+    pub fn has_proposal(self, ledger: LedgerNo, time: Time) -> bool
+        ensures { λ r. ⌜ r ≡ proposes self (ledger .0) (time .0) ⌝ }
+    {
+        let times = self.times;
+        if among(self.heard, ledger) {
+            return time_in(times, ledger).0 == time.0;
+        }
+        false
+    }
+
     // Whether both payments keep the same time of one ledger.
     fn shares(self, other: Payment, ledger: LedgerNo) -> bool
         ensures { λ r. ⌜ r ≡ heardFrom self (ledger .0) && proposes other (ledger .0) (timeFrom self (ledger .0)) ⌝ }
     {
         let mine = self.times;
-        let theirs = other.times;
         if among(self.heard, ledger) {
-            if among(other.heard, ledger) {
-                return time_in(theirs, ledger).0 == time_in(mine, ledger).0;
-            }
+            return other.has_proposal(ledger, time_in(mine, ledger));
         }
         false
     }

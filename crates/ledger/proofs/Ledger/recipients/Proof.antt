@@ -1,0 +1,14 @@
+use mathlib.Core.Path.{sym, _∙_}
+use Rattle.ledger.proofs.StepLaws.{recipients-none, recipients-others}
+use borrow.Author.Needs.{needs}
+use Rattle.ledger.proofs.Ledger.recipients.Statement.{statement}
+use Rattle.ledger.proofs.Ledger.recipients.Tie as tie
+
+returns : tie.Need-returns
+returns c = sym (recipients-none (c .before .before .args .self) (c .before .before .args .f) (c .if1 .taken))
+
+returns-2 : tie.Need-returns-2
+returns-2 c = c .others .ensures ∙ sym (recipients-others (c .before .before .before .args .self) (c .before .before .before .args .f) (c .before .if1 .left))
+
+pub recipients-spec : {M : Type 1} → statement M
+recipients-spec = tie.close (tie.spec returns (λ c κs. search needs) returns-2)

@@ -1,0 +1,7 @@
+-- Laws of the definitions in specs/.
+-- Assumes nothing.
+pub mod StateLaws
+pub mod SoundLaws
+pub mod RefusalLaws
+pub mod StepLaws
+pub mod JudgeLaws

@@ -1,0 +1,80 @@
+-- Laws of rules 1 to 4, one for each way through the definitions.
+-- Assumes nothing.
+use Prim.Native.Nat.{ℕ, _+_, _<_, _≤_, max}
+use mathlib.Core.Path.{_≡_, ap, sym, _∙_}
+use mathlib.Core.List.{List}
+use mathlib.Core.Bool.{cond}
+use lib.ListN.{set}
+use borrow.Author.Tests.{eq-eqb, ne-eqb}
+use Rattle.payment.specs.Payments.{stampOf, stamped}
+use Rattle.held.specs.Held.{at, limit, placeOf}
+use Rattle.ledger.specs.State.{newPayment}
+use Rattle.ledger.specs.Refusals.{heldOne}
+use Rattle.ledger.specs.Step.{countFor, inPhase, multicastRule, ownTime, paymentFor, placeFor, proposeRule, received, recipientsOf, sent, stampRule}
+use Rattle.frame.specs.Frames.{writing}
+use Rattle.frame.specs.declared.Frame.the-variants.{Propose}
+use Rattle.payment.specs.Ledgers.{without}
+use Rattle.ledger.specs.declared.Incoming.{Incoming}
+use Rattle.ledger.specs.declared.Ledger.{Ledger}
+use Rattle.ledger.proofs.RefusalLaws.{held-not, held-so}
+
+-- the frame's payment, its place and the count, from the place where it was found
+module _ (l : Ledger) (f : Incoming) (found : ℕ) (e : found ≡ placeOf (l .payments) (f .payment .0)) where
+  pub payment-held : found < limit → paymentFor l f ≡ at (l .payments) found
+  payment-held h =
+      ap (λ b. cond b (heldOne l f) (newPayment (f .payment .0) (f .destinations))) (held-so l f found e h)
+      ∙ ap (at (l .payments)) (sym e)
+
+  pub payment-new : limit ≤ found → paymentFor l f ≡ newPayment (f .payment .0) (f .destinations)
+  payment-new h = ap (λ b. cond b (heldOne l f) (newPayment (f .payment .0) (f .destinations))) (held-not l f found e h)
+
+  pub place-held : found < limit → placeFor l f ≡ found
+  place-held h = ap (λ b. cond b (placeOf (l .payments) (f .payment .0)) (l .count)) (held-so l f found e h) ∙ sym e
+
+  pub place-new : limit ≤ found → placeFor l f ≡ l .count
+  place-new h = ap (λ b. cond b (placeOf (l .payments) (f .payment .0)) (l .count)) (held-not l f found e h)
+
+  pub count-held : found < limit → countFor l f ≡ l .count
+  count-held h = ap (λ b. cond b (l .count) (l .count + 1)) (held-so l f found e h)
+
+  pub count-new : limit ≤ found → countFor l f ≡ l .count + 1
+  count-new h = ap (λ b. cond b (l .count) (l .count + 1)) (held-not l f found e h)
+
+-- rule 3, by whether every destination is heard
+module _ (l : Ledger) (i : ℕ) where
+  pub stamp-now : at (l .payments) i .heard ≡ at (l .payments) i .destinations
+      → stampRule l i
+      ≡ record {
+        group = l .group;
+        own = l .own;
+        clock = record { 0 = max (l .clock .0) (stampOf (at (l .payments) i) .time .0) };
+        count = l .count;
+        payments = set (l .payments) i (inPhase stamped (at (l .payments) i));
+      }
+  unfolding stampRule
+  stamp-now e = simp (eq-eqb _ _ e)
+
+  pub stamp-not : (at (l .payments) i .heard ≡ at (l .payments) i .destinations → ⊥) → stampRule l i ≡ l
+  unfolding stampRule
+  stamp-not n = simp (ne-eqb _ _ n)
+
+-- whose frame it is
+module _ (l : Ledger) (f : Incoming) where
+  pub received-propose : f .kind ≡ 2 → received l f ≡ proposeRule l f
+  received-propose e = ap (λ b. cond b (proposeRule l f) (multicastRule l f)) (eq-eqb _ _ e)
+
+  pub received-multicast : (f .kind ≡ 2 → ⊥) → received l f ≡ multicastRule l f
+  received-multicast n = ap (λ b. cond b (proposeRule l f) (multicastRule l f)) (ne-eqb _ _ n)
+
+  pub recipients-none : f .kind ≡ 2 → recipientsOf l f ≡ 0
+  recipients-none e = ap (λ b. cond b 0 (without (f .destinations) (l .own .0))) (eq-eqb _ _ e)
+
+  pub recipients-others : (f .kind ≡ 2 → ⊥) → recipientsOf l f ≡ without (f .destinations) (l .own .0)
+  recipients-others n = ap (λ b. cond b 0 (without (f .destinations) (l .own .0))) (ne-eqb _ _ n)
+
+  pub sent-none : (outgoing : List ℕ) → recipientsOf l f ≡ 0 → sent l f outgoing ≡ outgoing
+  sent-none outgoing e = ap (λ b. cond b outgoing (writing (Propose (f .payment) (f .destinations) (l .own) (ownTime l)) outgoing .buffer)) (eq-eqb _ _ e)
+
+  pub sent-some : (outgoing : List ℕ) → (recipientsOf l f ≡ 0 → ⊥)
+      → sent l f outgoing ≡ writing (Propose (f .payment) (f .destinations) (l .own) (ownTime l)) outgoing .buffer
+  sent-some outgoing n = ap (λ b. cond b outgoing (writing (Propose (f .payment) (f .destinations) (l .own) (ownTime l)) outgoing .buffer)) (ne-eqb _ _ n)

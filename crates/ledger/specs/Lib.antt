@@ -1,0 +1,6 @@
+-- What a reader must believe of a ledger and its step.
+-- Assumes nothing.
+pub mod State
+pub mod Sound
+pub mod Refusals
+pub mod Step

@@ -1,0 +1,46 @@
+-- Document 01, "What a ledger keeps": the state, the all-zero state, and the fresh one.
+-- Assumes nothing.
+use Prim.Native.Nat.{ℕ}
+use mathlib.Core.Bool.{Bool, cond, _&&_}
+use lib.Dec.{leb}
+use lib.ListN.{replicate}
+use Rattle.payment.specs.Payments.{noTime, waiting}
+use Rattle.payment.specs.declared.Payment.{Payment}
+use Rattle.held.specs.Held.{limit}
+use Rattle.ledger.specs.declared.Ledger.{Ledger}
+use Rattle.ledger.specs.declared.SetUp.{SetUp}
+
+-- a payment that is taken in: nothing heard, waiting
+abbrev pub newPayment : ℕ → ℕ → Payment
+newPayment number destinations =
+    record {
+      number = record { 0 = number };
+      destinations = destinations;
+      heard = 0;
+      times = replicate 8 noTime;
+      phase = waiting;
+    }
+
+-- a place that is all zero
+abbrev pub unusedPlace : Payment
+unusedPlace = newPayment 0 0
+
+-- a ledger that holds nothing
+abbrev pub empty : ℕ → ℕ → Ledger
+empty group own =
+    record {
+      group = group;
+      own = record { 0 = own };
+      clock = noTime;
+      count = 0;
+      payments = replicate limit unusedPlace;
+    }
+
+-- ledgers are 1 to N, N from 1 to 8
+abbrev pub isGroup : ℕ → ℕ → Bool
+isGroup group own = leb 1 group && (leb group 8 && (leb 1 own && leb own group))
+
+-- set-up refused, by answer 1, returns the all-zero state; any other hands back the fresh state of ledger `own` of N
+unfoldable pub setUp : ℕ → ℕ → SetUp
+setUp group own =
+    cond (isGroup group own) (record { state = empty group own; answer = 0 }) (record { state = empty 0 0; answer = 1 })

@@ -1,0 +1,167 @@
+-- Document 01, "The step": rules 1 to 4, and what a call hands back.
+-- Assumes nothing.
+use Prim.Native.Nat.{ℕ, _+_, max}
+use mathlib.Core.List.{List}
+use mathlib.Core.Bool.{cond}
+use lib.ListN.{set}
+use lib.Dec.{eqb}
+use Rattle.frame.specs.Frames.{frameValues, writing}
+use Rattle.frame.specs.declared.Frame.the-variants.{Propose}
+use Rattle.frame.specs.declared.Time.{Time}
+use Rattle.payment.specs.Ledgers.{howMany, without}
+use Rattle.payment.specs.Payments.{allHeard, hear, proposed, stampOf, stamped}
+use Rattle.payment.specs.declared.Payment.{Payment}
+use Rattle.held.specs.Held.{at, placeOf}
+use Rattle.held.specs.Posting.{posting}
+use Rattle.ledger.specs.State.{newPayment}
+use Rattle.ledger.specs.Refusals.{answerTo, firstGiven, heldOne, incoming, isHeld, isPropose, judged}
+use Rattle.ledger.specs.declared.Incoming.{Incoming}
+use Rattle.ledger.specs.declared.Ledger.{Ledger}
+use Rattle.ledger.specs.declared.Settled.{Settled}
+use Rattle.ledger.specs.declared.Step.{Step}
+
+-- take the payment in if it isn't held: the payment, its place (a new one goes to the first unused place), and the count
+abbrev pub paymentFor : Ledger → Incoming → Payment
+paymentFor l f = cond (isHeld l f) (heldOne l f) (newPayment (f .payment .0) (f .destinations))
+
+abbrev pub placeFor : Ledger → Incoming → ℕ
+placeFor l f = cond (isHeld l f) (placeOf (l .payments) (f .payment .0)) (l .count)
+
+abbrev pub countFor : Ledger → Incoming → ℕ
+countFor l f = cond (isHeld l f) (l .count) (l .count + 1)
+
+abbrev pub inPhase : ℕ → Payment → Payment
+inPhase phase p =
+    record { number = p .number; destinations = p .destinations; heard = p .heard; times = p .times; phase = phase }
+
+-- the ledger with the frame's payment kept so, and this clock
+abbrev pub keeping : Ledger → Incoming → Time → Payment → Ledger
+keeping l f clock p =
+    record {
+      group = l .group;
+      own = l .own;
+      clock = clock;
+      count = countFor l f;
+      payments = set (l .payments) (placeFor l f) p;
+    }
+
+-- the clock rises by 1 and is the own time
+abbrev pub ownTime : Ledger → Time
+ownTime l = record { 0 = l .clock .0 + 1 }
+
+-- rule 1, MULTICAST: take the payment in if it isn't held; the clock rises by 1 and is the own time
+unfoldable pub multicastRule : Ledger → Incoming → Ledger
+multicastRule l f = keeping l f (ownTime l) (inPhase proposed (hear (paymentFor l f) (l .own .0) (ownTime l)))
+
+-- rule 2, PROPOSE: take the payment in as waiting if it isn't held, and keep the source's time; the clock is not touched
+unfoldable pub proposeRule : Ledger → Incoming → Ledger
+proposeRule l f = keeping l f (l .clock) (hear (paymentFor l f) (f .source .0) (f .time))
+
+abbrev pub received : Ledger → Incoming → Ledger
+received l f = cond (isPropose f) (proposeRule l f) (multicastRule l f)
+
+-- rule 3: once every destination of the payment is heard, it is stamped with the greatest proposal, and the clock becomes the
+-- larger of itself and the stamp's time
+unfoldable pub stampRule : Ledger → ℕ → Ledger
+stampRule l i =
+    let p = at (l .payments) i in
+    cond (allHeard p)
+    (record {
+      group = l .group;
+      own = l .own;
+      clock = record { 0 = max (l .clock .0) (stampOf p .time .0) };
+      count = l .count;
+      payments = set (l .payments) i (inPhase stamped p);
+    })
+    l
+
+-- after rules 1 to 3
+abbrev pub heardOf : Ledger → Incoming → Ledger
+heardOf l f = stampRule (received l f) (placeFor l f)
+
+-- rule 4: then post; what that leaves: the ledger, the number of postings, and the whole posting list
+pub record Settling : Type 0 where
+  pub state : Ledger
+  pub count : ℕ
+  pub list : List ℕ
+
+unfoldable pub settling : Ledger → List ℕ → Settling
+settling l list =
+    let posts = posting (l .payments) (l .own .0) list in
+    record {
+      state = record { group = l .group; own = l .own; clock = l .clock; count = l .count; payments = posts .payments };
+      count = posts .count;
+      list = posts .list;
+    }
+
+abbrev pub left : Settled → List ℕ → Settling
+left r list = record { state = r .state; count = r .count; list = list }
+
+-- recipients are the other destinations; a PROPOSE has none
+abbrev pub recipientsOf : Ledger → Incoming → ℕ
+recipientsOf l f = cond (isPropose f) 0 (without (f .destinations) (l .own .0))
+
+-- the first 9 bytes of the outgoing buffer become this ledger's PROPOSE; if there are no recipients, no byte is written
+abbrev pub sent : Ledger → Incoming → List ℕ → List ℕ
+sent l f outgoing =
+    cond (eqb (recipientsOf l f) 0) outgoing
+    (writing (Propose (f .payment) (f .destinations) (l .own) (ownTime l)) outgoing .buffer)
+
+-- all that a call hands back, and the two buffers whole
+pub record Outcome : Type 0 where
+  pub state : Ledger
+  pub answer : ℕ
+  pub recipients : ℕ
+  pub copies : ℕ
+  pub postings : ℕ
+  pub outgoing : List ℕ
+  pub list : List ℕ
+
+-- what the code's step handed back, beside the two buffers as they were left
+abbrev pub outcome : Step → List ℕ → List ℕ → Outcome
+outcome r outgoing list =
+    record {
+      state = r .state;
+      answer = r .answer;
+      recipients = r .recipients;
+      copies = r .copies;
+      postings = r .postings;
+      outgoing = outgoing;
+      list = list;
+    }
+
+-- answers 1 to 11 return the state unchanged, no recipients, counts 0, buffers untouched
+abbrev pub refused : Ledger → ℕ → List ℕ → List ℕ → Outcome
+refused l answer outgoing list =
+    record { state = l; answer = answer; recipients = 0; copies = 0; postings = 0; outgoing = outgoing; list = list }
+
+abbrev pub refusing : Ledger → ℕ → Step
+refusing l answer = record { state = l; answer = answer; recipients = 0; copies = 0; postings = 0 }
+
+-- a frame that is taken: rules 1 to 4
+abbrev pub taken : Ledger → Incoming → List ℕ → List ℕ → Outcome
+taken l f outgoing list =
+    let after = settling (heardOf l f) list in
+    record {
+      state = after .state;
+      answer = 0;
+      recipients = recipientsOf l f;
+      copies = howMany (recipientsOf l f);
+      postings = after .count;
+      outgoing = sent l f outgoing;
+      list = after .list;
+    }
+
+-- a frame whose values are judged: taken where no row of the table applies
+unfoldable pub judging : Ledger → Incoming → List ℕ → List ℕ → Outcome
+judging l f outgoing list =
+    let answer = firstGiven (judged l f) in
+    cond (eqb answer 0) (taken l f outgoing list) (refused l answer outgoing list)
+
+-- the step: taken where no row of the whole table applies, and else the answer of the first that does
+unfoldable pub step : Ledger → List ℕ → List ℕ → List ℕ → Outcome
+step l frame outgoing list =
+    let answer = answerTo l frame outgoing list in
+    cond (eqb answer 0)
+    (taken l (incoming (frameValues frame)) outgoing list)
+    (refused l answer outgoing list)
