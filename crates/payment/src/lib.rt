@@ -1,13 +1,12 @@
 // One payment's record: its destinations, every destination's proposed time with which ones were heard, and its phase.
+mod right;
+
 use frame::LedgerNo;
 use frame::PaymentNo;
 use frame::Time;
 ghost use mathlib.Core.Path.{_≡_};
-ghost use mathlib.Core.Bool.{_&&_};
-ghost use lib.Dec.{ltb};
 ghost use Rattle.payment.specs.Ledgers.{has, howMany, without};
-ghost use Rattle.payment.specs.Payments.{greatest, hasStamp, hear, heardFrom, proposes, stampOf, timeFrom, timeIn, unlawful};
-ghost use Rattle.payment.specs.Right.{heardRight, notAbove, otherTimes, phaseRight, timeRight, unused};
+ghost use Rattle.payment.specs.Payments.{greatest, hear, proposes, stampOf, timeIn, unlawful};
 ghost use Rattle.payment.specs.Stamps.{below};
 
 // Phases.
@@ -161,112 +160,6 @@ impl Payment {
         self
     }
 
-    // Whether what is kept from one ledger is as it should be.
-    fn time_right(self, ledger: LedgerNo) -> bool
-        ensures { λ r. ⌜ r ≡ timeRight self (ledger .0) ⌝ }
-    {
-        let times = self.times;
-        let time = time_in(times, ledger);
-        if among(self.heard, ledger) {
-            if among(self.destinations, ledger) {
-                if time.0 < 1 {
-                    return false;
-                }
-                return time.0 <= LAST_TIME;
-            }
-            return false;
-        }
-        time.0 == 0
-    }
-
-    // Whether heard ones are destinations with lawful times, and all other times 0.
-    pub fn heard_right(self) -> bool
-        ensures { λ r. ⌜ r ≡ heardRight self ⌝ }
-    {
-        for k in 0..8u8 {
-            if self.time_right(LedgerNo(k + 1)) {} else {
-                return false;
-            }
-        }
-        true
-    }
-
-    fn has_stamp(self) -> bool
-        ensures { λ r. ⌜ r ≡ hasStamp self ⌝ }
-    {
-        if self.phase == STAMPED {
-            return true;
-        }
-        self.phase == POSTED
-    }
-
-    // Whether the own time is above the clock.
-    fn own_above(self, own: LedgerNo, clock: Time) -> bool
-        ensures { λ r. ⌜ r ≡ heardFrom self (own .0) && ltb (clock .0) (timeFrom self (own .0)) ⌝ }
-    {
-        let times = self.times;
-        if among(self.heard, own) {
-            return clock.0 < time_in(times, own).0;
-        }
-        false
-    }
-
-    // Whether neither the own time nor the stamp's time is above the clock.
-    pub fn not_above(self, own: LedgerNo, clock: Time) -> bool
-        ensures { λ r. ⌜ r ≡ notAbove (own .0) (clock .0) self ⌝ }
-    {
-        if self.own_above(own, clock) {
-            return false;
-        }
-        if self.has_stamp() {
-            if clock.0 < self.stamp().time.0 {
-                return false;
-            }
-        }
-        true
-    }
-
-    // Whether the phase is the one that what was heard makes it.
-    pub fn phase_right(self, own: LedgerNo) -> bool
-        ensures { λ r. ⌜ r ≡ phaseRight (own .0) self ⌝ }
-    {
-        if self.phase == WAITING {
-            if among(self.heard, own) {
-                return false;
-            }
-            return self.heard != 0;
-        }
-        if self.phase == PROPOSED {
-            if among(self.heard, own) {
-                return self.heard != self.destinations;
-            }
-            return false;
-        }
-        if self.has_stamp() {
-            return self.heard == self.destinations;
-        }
-        false
-    }
-
-    // Whether the place is unused: all zero.
-    pub fn is_unused(self) -> bool
-        ensures { λ r. ⌜ r ≡ unused self ⌝ }
-    {
-        if self.number.0 != 0 {
-            return false;
-        }
-        if self.destinations != 0 {
-            return false;
-        }
-        if self.heard != 0 {
-            return false;
-        }
-        if self.phase != 0 {
-            return false;
-        }
-        self.heard_right()
-    }
-
     // Whether a ledger's time is held for the payment as a proposal.
     pub fn has_proposal(self, ledger: LedgerNo, time: Time) -> bool
         ensures { λ r. ⌜ r ≡ proposes self (ledger .0) (time .0) ⌝ }
@@ -276,28 +169,5 @@ impl Payment {
             return time_in(times, ledger).0 == time.0;
         }
         false
-    }
-
-    // Whether both payments keep the same time of one ledger.
-    fn shares(self, other: Payment, ledger: LedgerNo) -> bool
-        ensures { λ r. ⌜ r ≡ heardFrom self (ledger .0) && proposes other (ledger .0) (timeFrom self (ledger .0)) ⌝ }
-    {
-        let mine = self.times;
-        if among(self.heard, ledger) {
-            return other.has_proposal(ledger, time_in(mine, ledger));
-        }
-        false
-    }
-
-    // Whether no ledger's time is kept for both payments.
-    pub fn other_times(self, other: Payment) -> bool
-        ensures { λ r. ⌜ r ≡ otherTimes self other ⌝ }
-    {
-        for k in 0..8u8 {
-            if self.shares(other, LedgerNo(k + 1)) {
-                return false;
-            }
-        }
-        true
     }
 }
