@@ -1,6 +1,6 @@
 -- Laws of `every`, `any` and `first`: what they say of each place.
 -- Assumes nothing.
-use Prim.Native.Nat.{ℕ, zero, suc, _+_, _<_}
+use Prim.Native.Nat.{ℕ, zero, suc, _+_, _<_, _≤_}
 use mathlib.Core.Path.{_≡_, refl, ap, ap₂, sym, _∙_, subst}
 use mathlib.Core.Bool.{Bool, true, false, _&&_, _||_}
 use mathlib.Core.Logic.{⊎-elim}
@@ -125,3 +125,30 @@ module _ {A : Type 0} where
   listed-places xs n d e =
       ext-getD d (listed n (λ k. getD xs k d)) xs (length-listed n (λ k. getD xs k d) ∙ sym e)
       (λ k h. getD-listed n (λ k. getD xs k d) k d (subst (λ (m : ℕ). k < m) (length-listed n (λ k. getD xs k d)) h))
+
+-- where f holds somewhere, the first place is one of those
+pub first-within : (n : ℕ) (f : ℕ → Bool) → any n f ≡ true → first n f < n
+unfolding first any
+first-within zero f e = both e refl
+first-within (suc n) f e =
+    split (any n f)
+    (λ t. simp t (let h = first-within n f t in omega arith))
+    (λ t. split (f n)
+    (λ u. simp (t, u) (omega arith))
+    (λ u. both e (simp (t, u))))
+
+pub first-holds : (n : ℕ) (f : ℕ → Bool) → first n f < n → f (first n f) ≡ true
+unfolding first
+first-holds zero f h = absurd (not-suc-le-zero h)
+first-holds (suc n) f h =
+    split (any n f)
+    (λ t. simp t (first-holds n f (first-within n f t)))
+    (λ t. split (f n)
+    (λ u. simp (t, u))
+    (λ u. let e : first (suc n) f ≡ suc n = simp (t, u) in absurd (omega arith)))
+
+pub first-missing : (n : ℕ) (f : ℕ → Bool) → n ≤ first n f → (k : ℕ) → k < n → f k ≡ false
+first-missing n f h =
+    split (any n f)
+    (λ t. let l = first-within n f t in absurd (omega arith))
+    (λ t. any-none n f t)

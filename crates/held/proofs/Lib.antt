@@ -3,3 +3,4 @@
 pub mod CheckedLaws
 pub mod FreeLaws
 pub mod PostLaws
+pub mod ReflectLaws

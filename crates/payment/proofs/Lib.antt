@@ -5,3 +5,5 @@ pub mod StampLaws
 pub mod PaymentLaws
 pub mod RightLaws
 pub mod KeptLaws
+pub mod HearLaws
+pub mod GreatestLaws

@@ -57,7 +57,7 @@ module _ (own : ℕ) (p : Payment) where
   later-none e f h = simp (ne-eqb _ _ e, ne-eqb _ _ f, h)
 
 -- nothing is heard from an empty byte
-has-empty : (k : ℕ) → has 0 k ≡ false
+pub has-empty : (k : ℕ) → has 0 k ≡ false
 unfolding has
 has-empty zero = refl
 has-empty (suc k) = ap (λ q. eqb (q % 2) 1) (zero-div (2 ^ k))

@@ -1,0 +1,11 @@
+-- The proofs of soundness.
+-- Assumes nothing.
+pub mod Replacing
+pub mod Apart
+pub mod Hearing
+pub mod Accepted
+pub mod Taking
+pub mod Bringing
+pub mod Settling
+pub mod Kept
+pub mod Steps

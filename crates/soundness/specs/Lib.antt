@@ -1,0 +1,3 @@
+-- What the theorems of soundness speak of.
+-- Assumes nothing.
+pub mod Shaped
