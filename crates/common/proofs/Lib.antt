@@ -1,5 +1,6 @@
 -- Laws of tests, of the places below a bound, and of bytes.
 -- Assumes nothing.
+pub mod Settled
 pub mod TestLaws
 pub mod PlaceLaws
 pub mod OrderLaws

@@ -4,3 +4,4 @@ pub mod CheckedLaws
 pub mod FreeLaws
 pub mod PostLaws
 pub mod ReflectLaws
+pub mod Settled

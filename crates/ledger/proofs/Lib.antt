@@ -5,3 +5,4 @@ pub mod SoundLaws
 pub mod RefusalLaws
 pub mod StepLaws
 pub mod JudgeLaws
+pub mod Settled

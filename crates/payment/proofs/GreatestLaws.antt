@@ -1,7 +1,7 @@
 -- The greatest proposal is not below any that was heard, and its time is lawful where theirs are.
 -- Assumes nothing.
 use Prim.Native.Nat.{ℕ, zero, suc, _<_, _≤_}
-use mathlib.Core.Path.{_≡_, sym, _∙_, subst}
+use mathlib.Core.Path.{_≡_, refl, sym, _∙_, subst}
 use mathlib.Core.List.{List}
 use mathlib.Core.Bool.{true, false, cond, _&&_}
 use native.Mathlib.Nat.{le-of-lt, le-refl, le-trans}
@@ -59,3 +59,10 @@ module _ (times : List Time) (heard : ℕ) where
       next (λ s. A (s .time .0)) n
       (λ t. f n (omega arith) (and-left (has heard (suc n)) _ t))
       (λ t. greatest-time A z n (λ k h e. f k (omega arith) e))
+
+  -- only where nothing was heard does it name no ledger
+  pub greatest-none : (n : ℕ) → greatest times heard n .ledger .0 ≡ 0 → rank (greatest times heard n) ≡ 0
+  unfolding greatest
+  greatest-none zero = λ e. refl
+  greatest-none (suc n) =
+      next (λ s. s .ledger .0 ≡ 0 → rank s ≡ 0) n (λ t e. absurd (omega arith)) (λ t e. greatest-none n e)

@@ -9,3 +9,7 @@ pub mod Bringing
 pub mod Settling
 pub mod Kept
 pub mod Steps
+pub mod Fresh
+pub mod Table
+pub mod Rising
+pub mod Postings

@@ -64,7 +64,7 @@ phaseRight-posted own p h e =
     ∙ sym (later-stamp own p (λ z. omega arith) (λ z. omega arith) (ap (λ b. b || isPosted p) (eq-eqb _ _ h)))
     ∙ e
 
-unused-phase : (p : Payment) → unused p ≡ true → p .phase ≡ 0
+pub unused-phase : (p : Payment) → unused p ≡ true → p .phase ≡ 0
 unfolding unused
 unused-phase p e =
     eqb-true _ _ (and-left (eqb (p .phase) 0) _ (and-right (eqb (p .heard) 0) _ (and-right (eqb (p .destinations) 0) _ (and-right (eqb (p .number .0) 0) _ e))))

@@ -1,0 +1,128 @@
+-- What is posted: exactly the payments that were free, each once, strictly rising by stamp.
+-- Assumes nothing.
+use Prim.Native.Nat.{ℕ, zero, suc, _+_, _*_, _-_, _<_, _≤_}
+use mathlib.Core.Path.{_≡_, refl, ap, ap₂, sym, _∙_, subst}
+use mathlib.Core.List.{List}
+use mathlib.Core.Bool.{Bool, true, false, not, cond, _&&_}
+use native.Mathlib.Nat.{lt-trans}
+use native.Mathlib.Omega.{arith}
+use lib.Dec.{eqb, ltb}
+use borrow.Author.Tests.{eq-eqb, eqb-false, eqb-true, lt-ltb, ltb-false, ltb-true, not-true}
+use Rattle.common.proofs.TestLaws.{and-right, both, split}
+use Rattle.frame.specs.declared.Time.{Time}
+use Rattle.payment.specs.Ledgers.{has}
+use Rattle.payment.specs.Payments.{allHeard, greatest, heardFrom, isStamped, proposal, stampOf, timeFrom, unlawful}
+use Rattle.payment.specs.Right.{lawful, otherTimes, phaseRight}
+use Rattle.payment.specs.Stamps.{below}
+use Rattle.payment.specs.declared.Payment.{Payment}
+use Rattle.payment.specs.declared.Stamp.{Stamp}
+use Rattle.payment.proofs.GreatestLaws.{greatest-above, greatest-ledger, greatest-none}
+use Rattle.payment.proofs.KeptLaws.{greatest-proposed}
+use Rattle.payment.proofs.LedgerLaws.{place}
+use Rattle.payment.proofs.RightLaws.{later-stamp}
+use Rattle.payment.proofs.StampLaws.{below-rank, rank}
+use Rattle.held.specs.Held.{at, limit}
+use Rattle.held.specs.Posting.{before, isFree, toPost}
+use Rattle.held.proofs.PostLaws.{free-stamped}
+use Rattle.held.proofs.ReflectLaws.{each-at, pairs-at, unused-at}
+use Rattle.ledger.specs.declared.Ledger.{Ledger}
+use Rattle.soundness.proofs.Apart.{Apart, apart-at, apart-sym}
+use Rattle.soundness.proofs.Replacing.{Almost}
+use Rattle.soundness.proofs.Rising.{All, Has, Rising, sorted-all, sorted-has, sorted-rising}
+use Rattle.soundness.proofs.Settling.{unused-phase}
+use Rattle.soundness.proofs.Taking.{own-among}
+
+stamp-small : (p : Payment) → stampOf p .ledger .0 ≤ 8
+stamp-small p = greatest-ledger (p .times) (p .heard) 8
+
+-- the order of stamps is that of their ranks
+pub below-stamps : (p q : Payment) → below (stampOf p) (stampOf q) ≡ ltb (rank (stampOf p)) (rank (stampOf q))
+below-stamps p q =
+    let hp = stamp-small p in
+    let hq = stamp-small q in
+    below-rank (stampOf p) (stampOf q) (omega arith) (omega arith)
+
+-- a payment that this ledger was heard for has a stamp of one of the eight ledgers
+stamp-some : (p : Payment) (own : ℕ) → 1 ≤ own → own ≤ 8 → heardFrom p own ≡ true → 1 ≤ stampOf p .ledger .0
+stamp-some p own h g e =
+    let is : own ≡ suc (own - 1) = place own (λ z. omega arith) in
+    let top : rank (proposal (p .times) (suc (own - 1))) ≤ rank (stampOf p) =
+      greatest-above (p .times) (p .heard) 8 (omega arith) (own - 1) (omega arith) (subst (λ n. heardFrom p n ≡ true) is e) in
+    split (eqb (stampOf p .ledger .0) 0)
+    (λ t. let none : rank (stampOf p) ≡ 0 = greatest-none (p .times) (p .heard) 8 (eqb-true _ _ t) in absurd (omega arith))
+    (λ t. let some = eqb-false _ _ t in omega arith)
+
+-- two payments that keep no time of one ledger together have different stamps
+pub stamps-differ : (p q : Payment) (own : ℕ) → 1 ≤ own → own ≤ 8 → heardFrom p own ≡ true → heardFrom q own ≡ true → Apart p q
+    → rank (stampOf p) ≡ rank (stampOf q) → ⊥
+stamps-differ p q own h g a b apart e =
+    let hp = stamp-small p in
+    let hq = stamp-small q in
+    let some = stamp-some p own h g a in
+    let ledgers : stampOf p .ledger .0 ≡ stampOf q .ledger .0 = omega arith in
+    let times : stampOf p .time .0 ≡ stampOf q .time .0 = omega arith in
+    let is : stampOf p .ledger .0 ≡ suc (stampOf p .ledger .0 - 1) = omega arith in
+    let k = stampOf p .ledger .0 - 1 in
+    let mine = greatest-proposed (p .times) (p .heard) 8 (stampOf p .ledger .0 - 1) is in
+    let other = greatest-proposed (q .times) (q .heard) 8 (stampOf p .ledger .0 - 1) (sym ledgers ∙ is) in
+    apart (stampOf p .ledger .0 - 1) (omega arith) (mine .0) (other .0)
+    (ap (λ t. t .0) (mine .1) ∙ times ∙ sym (ap (λ t. t .0) (other .1)))
+
+module _ (l : Ledger) (s : Almost l) (range : (1 ≤ l .own .0) × (l .own .0 ≤ 8)) where
+  -- a stamped payment is held, and this ledger was heard for it
+  stamped-held : (i : ℕ) → i < limit → at (l .payments) i .phase ≡ 2 → i < l .count
+  stamped-held i h p =
+      split (ltb i (l .count)) (λ t. ltb-true _ _ t)
+      (λ t. let none : at (l .payments) i .phase ≡ 0 = unused-phase (at (l .payments) i) (unused-at (l .payments) (l .count) (s .unused) i h (ltb-false _ _ t)) in
+        absurd (omega (arith, none, p)))
+
+  stamped-own : (i : ℕ) → i < limit → at (l .payments) i .phase ≡ 2 → heardFrom (at (l .payments) i) (l .own .0) ≡ true
+  stamped-own i h p =
+      let u = stamped-held i h p in
+      let all = eqb-true _ _
+        (sym (later-stamp (l .own .0) (at (l .payments) i) (λ z. omega (arith, p, z)) (λ z. omega (arith, p, z)) (ap (λ b. b || _) (eq-eqb _ _ p)))
+        ∙ each-at (l .payments) (l .count) (phaseRight (l .own .0)) (s .phase) i h u) in
+      ap (λ d. has d (l .own .0)) all
+      ∙ own-among (l .group) (l .own .0) (at (l .payments) i .destinations)
+          (not-true _ (each-at (l .payments) (l .count) (lawful (l .group) (l .own .0)) (s .destinations) i h u))
+
+  apart-held : (i j : ℕ) → i < limit → j < limit → i < l .count → j < l .count → (i ≡ j → ⊥) → Apart (at (l .payments) i) (at (l .payments) j)
+  apart-held i j hi hj ui uj o =
+      split (ltb j i)
+      (λ t. apart-at (at (l .payments) i) (at (l .payments) j) (pairs-at (l .payments) (l .count) otherTimes (s .times) i j hi ui (ltb-true _ _ t)))
+      (λ t. let above = ltb-false j i t in
+        apart-sym (at (l .payments) j) (at (l .payments) i)
+        (apart-at (at (l .payments) j) (at (l .payments) i) (pairs-at (l .payments) (l .count) otherTimes (s .times) j i hj uj (omega arith))))
+
+  -- two stamped payments are in an order
+  pub free-ordered : (i j : ℕ) → i < limit → j < limit → isFree (l .payments) (l .own .0) i ≡ true → isFree (l .payments) (l .own .0) j ≡ true
+      → (i ≡ j → ⊥) → before (l .payments) i j ≡ false → before (l .payments) j i ≡ true
+  free-ordered i j hi hj fi fj o b =
+      let pi = free-stamped (l .payments) (l .own .0) i fi in
+      let pj = free-stamped (l .payments) (l .own .0) j fj in
+      let up : rank (stampOf (at (l .payments) j)) ≤ rank (stampOf (at (l .payments) i)) =
+        ltb-false _ _ (sym (below-stamps (at (l .payments) i) (at (l .payments) j)) ∙ b) in
+      let differ : rank (stampOf (at (l .payments) i)) ≡ rank (stampOf (at (l .payments) j)) → ⊥ =
+        stamps-differ (at (l .payments) i) (at (l .payments) j) (l .own .0) (range .0) (range .1) (stamped-own i hi pi) (stamped-own j hj pj)
+        (apart-held i j hi hj (stamped-held i hi pi) (stamped-held j hj pj) o) in
+      below-stamps (at (l .payments) j) (at (l .payments) i) ∙ lt-ltb _ _ (less (rank (stampOf (at (l .payments) j))) (rank (stampOf (at (l .payments) i))) up (λ e. differ (sym e)))
+    where
+      less : (a b : ℕ) → a ≤ b → (a ≡ b → ⊥) → a < b
+      less a b h n = omega arith
+
+  -- strictly rising by stamp
+  pub posting-rising : Rising (before (l .payments)) (toPost (l .payments) (l .own .0))
+  posting-rising =
+      sorted-rising (before (l .payments)) (isFree (l .payments) (l .own .0))
+      (λ a b c x y. below-stamps (at (l .payments) a) (at (l .payments) c)
+        ∙ lt-ltb _ _ (lt-trans
+          (ltb-true _ _ (sym (below-stamps (at (l .payments) a) (at (l .payments) b)) ∙ x))
+          (ltb-true _ _ (sym (below-stamps (at (l .payments) b) (at (l .payments) c)) ∙ y))))
+      limit free-ordered
+
+-- exactly the free ones
+pub posting-free : (payments : List Payment) (own : ℕ) → All (λ i. (i < limit) × (isFree payments own i ≡ true)) (toPost payments own)
+posting-free payments own = sorted-all (before payments) (isFree payments own) _ limit (λ k h e. (h, e))
+
+pub posting-all : (payments : List Payment) (own i : ℕ) → i < limit → isFree payments own i ≡ true → Has i (toPost payments own)
+posting-all payments own i h e = sorted-has (before payments) (isFree payments own) limit i h e
