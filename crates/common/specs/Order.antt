@@ -15,7 +15,7 @@ unfoldable pub sorted : (ℕ → ℕ → Bool) → (ℕ → Bool) → ℕ → Li
 sorted before f zero = []
 sorted before f (suc n) = cond (f n) (insert before n (sorted before f n)) (sorted before f n)
 
--- the first in order of the places below n at which f holds; `none` where there is none
+-- for a search: the first in order of the places below n at which f holds; `none` where there is none
 unfoldable pub least : ℕ → (ℕ → ℕ → Bool) → (ℕ → Bool) → ℕ → ℕ
 least none before f zero = none
 least none before f (suc n) =

@@ -6,7 +6,7 @@ use mathlib.Core.Bool.{true, false, not}
 use borrow.Author.Tests.{eq-eqb, ne-eqb}
 use Rattle.common.proofs.TestLaws.{and-false, and-stop}
 use Rattle.payment.specs.Payments.{unlawful}
-use Rattle.payment.specs.Right.{heardRight, notAbove, phaseRight}
+use Rattle.payment.specs.Right.{heardRight, notAboveClock, phaseRight}
 use Rattle.payment.specs.declared.Payment.{Payment}
 use Rattle.held.specs.Checked.{right}
 
@@ -20,9 +20,9 @@ module _ (group own clock : ℕ) (p : Payment) where
   pub wrong-heard : heardRight p ≡ false → right group own clock p ≡ false
   wrong-heard h = simp (h, and-false)
 
-  pub wrong-clock : notAbove own clock p ≡ false → right group own clock p ≡ false
+  pub wrong-clock : notAboveClock own clock p ≡ false → right group own clock p ≡ false
   wrong-clock h = simp (h, and-false)
 
-  pub right-phase : (p .number .0 ≡ 0 → ⊥) → unlawful group own (p .destinations) ≡ false → heardRight p ≡ true → notAbove own clock p ≡ true
+  pub right-phase : (p .number .0 ≡ 0 → ⊥) → unlawful group own (p .destinations) ≡ false → heardRight p ≡ true → notAboveClock own clock p ≡ true
       → right group own clock p ≡ phaseRight own p
   right-phase n u h a = simp (ne-eqb _ _ n, u, h, a)

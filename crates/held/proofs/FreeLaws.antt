@@ -18,7 +18,7 @@ use Rattle.payment.specs.declared.Payment.{Payment}
 use Rattle.payment.specs.declared.Stamp.{Stamp}
 use Rattle.held.specs.Held.{at, limit}
 use Rattle.held.specs.Posting.{before, heldBack, holdsBack, isFree}
-use Rattle.held.specs.Checked.{behind}
+use Rattle.held.specs.Checked.{comesAfter}
 
 module _ (own : ℕ) (stamp : Stamp) (p : Payment) where
   pub back-other : (p .phase ≡ 1 → ⊥) → holdsBack own stamp p ≡ false
@@ -29,16 +29,16 @@ module _ (own : ℕ) (stamp : Stamp) (p : Payment) where
   unfolding holdsBack
   back-proposed e = and-go _ (eq-eqb _ _ e)
 
-  pub behind-stamped : p .phase ≡ 2 → behind own stamp p ≡ below stamp (stampOf p)
-  unfolding behind
+  pub behind-stamped : p .phase ≡ 2 → comesAfter own stamp p ≡ below stamp (stampOf p)
+  unfolding comesAfter
   behind-stamped e = simp (eq-eqb _ _ e, ne-eqb (p .phase) 1 (λ z. omega arith)) (and-true (below stamp (stampOf p)))
 
-  pub behind-proposed : p .phase ≡ 1 → behind own stamp p ≡ ltb (stamp .time .0) (timeFrom p own)
-  unfolding behind
+  pub behind-proposed : p .phase ≡ 1 → comesAfter own stamp p ≡ ltb (stamp .time .0) (timeFrom p own)
+  unfolding comesAfter
   behind-proposed e = simp (eq-eqb _ _ e, ne-eqb (p .phase) 2 (λ z. omega arith))
 
-  pub behind-other : (p .phase ≡ 2 → ⊥) → (p .phase ≡ 1 → ⊥) → behind own stamp p ≡ true
-  unfolding behind
+  pub behind-other : (p .phase ≡ 2 → ⊥) → (p .phase ≡ 1 → ⊥) → comesAfter own stamp p ≡ true
+  unfolding comesAfter
   behind-other n m = simp (ne-eqb _ _ n, ne-eqb _ _ m)
 
 module _ (payments : List Payment) (own : ℕ) where

@@ -20,7 +20,7 @@ use Rattle.payment.specs.Stamps.{below}
 use Rattle.payment.specs.declared.Payment.{Payment}
 use Rattle.payment.specs.declared.Stamp.{Stamp}
 use Rattle.held.specs.Held.{at, limit, noPayment}
-use Rattle.held.specs.Posting.{afterPosting, before, heldBack, holdsBack, isFree, nowPosted, numbers, posting, toPost}
+use Rattle.held.specs.Posting.{afterPosting, before, heldBack, holdsBack, isFree, nowPosted, numbers, posting, toPost, written}
 use Rattle.held.proofs.FreeLaws.{back-other, free-other}
 
 -- the place of the next payment to post
@@ -159,3 +159,7 @@ posting-long payments own list h =
     (ap (λ l. record { payments = afterPosting payments own; count = length (numbers payments own); list = l })
     (sym (sets-eq (numbers payments own) list 0 (let few = numbers-few payments own in omega arith)
     ∙ ap (λ n. numbers payments own ++ drop n list) (zero-add (length (numbers payments own))))))
+
+pub posting-written : (payments : List Payment) (own : ℕ) (list : List ℕ) → limit ≤ length list → posting payments own list ≡ written payments own list
+unfolding posting
+posting-written payments own list h = simp (le-ltb _ _ h)

@@ -14,7 +14,7 @@ use Rattle.payment.specs.Right.{unused}
 use Rattle.payment.specs.declared.Payment.{Payment}
 use Rattle.held.specs.Held.{at, limit}
 use Rattle.held.specs.Posting.{isFree}
-use Rattle.held.specs.Checked.{behind, heldAll, heldPairs, noneFree, postedBelow, unusedAll}
+use Rattle.held.specs.Checked.{comesAfter, heldAll, heldPairs, noneFree, postedBelow, unusedAll}
 
 -- a test that may be passed over: what it says where it is not, and that this is enough
 or-at : {a b : Bool} → a || b ≡ true → a ≡ false → b ≡ true
@@ -51,17 +51,17 @@ module _ (payments : List Payment) (count : ℕ) where
 
 module _ (payments : List Payment) (own : ℕ) where
   pub posted-at : postedBelow payments own ≡ true → (i j : ℕ) → i < limit → j < limit → isPosted (at payments i) ≡ true
-      → behind own (stampOf (at payments i)) (at payments j) ≡ true
+      → comesAfter own (stampOf (at payments i)) (at payments j) ≡ true
   posted-at e i j h g p =
-      every-at limit (λ j. behind own (stampOf (at payments i)) (at payments j))
-      (or-at (every-at limit (λ i. not (isPosted (at payments i)) || every limit (λ j. behind own (stampOf (at payments i)) (at payments j))) e i h) (ap not p)) j g
+      every-at limit (λ j. comesAfter own (stampOf (at payments i)) (at payments j))
+      (or-at (every-at limit (λ i. not (isPosted (at payments i)) || every limit (λ j. comesAfter own (stampOf (at payments i)) (at payments j))) e i h) (ap not p)) j g
 
-  pub posted-so : ((i j : ℕ) → i < limit → j < limit → isPosted (at payments i) ≡ true → behind own (stampOf (at payments i)) (at payments j) ≡ true)
+  pub posted-so : ((i j : ℕ) → i < limit → j < limit → isPosted (at payments i) ≡ true → comesAfter own (stampOf (at payments i)) (at payments j) ≡ true)
       → postedBelow payments own ≡ true
   posted-so f =
-      every-all limit (λ i. not (isPosted (at payments i)) || every limit (λ j. behind own (stampOf (at payments i)) (at payments j)))
+      every-all limit (λ i. not (isPosted (at payments i)) || every limit (λ j. comesAfter own (stampOf (at payments i)) (at payments j)))
       (λ i h. or-so (not (isPosted (at payments i))) _
-      (λ n. every-all limit (λ j. behind own (stampOf (at payments i)) (at payments j)) (λ j g. f i j h g (was-posted (isPosted (at payments i)) n))))
+      (λ n. every-all limit (λ j. comesAfter own (stampOf (at payments i)) (at payments j)) (λ j g. f i j h g (was-posted (isPosted (at payments i)) n))))
     where
       was-posted : (b : Bool) → not b ≡ false → b ≡ true
       was-posted true e = refl

@@ -24,14 +24,14 @@ at payments i = getD payments i noPayment
 abbrev pub isNumber : List Payment → ℕ → ℕ → Bool
 isNumber payments number i = eqb (at payments i .number .0) number
 
--- the place of the payment of this number; the limit where it is not held
+-- the place of the payment of this number, which is not 0 (an unused place has number 0); the limit where it is not held
 abbrev pub placeOf : List Payment → ℕ → ℕ
 placeOf payments number = first limit (isNumber payments number)
 
--- a payment of this number is held
+-- a payment of this number, which is not 0, is held
 abbrev pub holds : List Payment → ℕ → Bool
 holds payments number = ltb (placeOf payments number) limit
 
 -- ledger k's time t is held for another payment than this number's, as a proposal or in a stamp
-abbrev pub timeTaken : List Payment → ℕ → ℕ → ℕ → Bool
-timeTaken payments number k t = any limit (λ i. not (isNumber payments number i) && keeps (at payments i) k t)
+abbrev pub heldForAnother : List Payment → ℕ → ℕ → ℕ → Bool
+heldForAnother payments number k t = any limit (λ i. not (isNumber payments number i) && keeps (at payments i) k t)

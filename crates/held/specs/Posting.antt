@@ -63,7 +63,7 @@ written payments own list =
     let ns = numbers payments own in
     record { payments = afterPosting payments own; count = length ns; list = ns ++ drop (length ns) list }
 
--- posting, into a list that has a place for each payment (the step has refused any other)
+-- the promise of the code's post: into a list that is too short nothing is posted (ours: the step has answered 2 before)
 unfoldable pub posting : List Payment → ℕ → List ℕ → Posting
 posting payments own list =
     cond (ltb (length list) limit) (record { payments = payments; count = 0; list = list }) (written payments own list)

@@ -13,9 +13,9 @@ ghost use Rattle.common.specs.Order.{least};
 ghost use Rattle.common.specs.Places.{any, every};
 ghost use Rattle.payment.specs.Payments.{isPosted, keeps, stampOf};
 ghost use Rattle.payment.specs.Right.{unused};
-ghost use Rattle.held.specs.Held.{at, limit, placeOf, timeTaken};
+ghost use Rattle.held.specs.Held.{at, limit, placeOf, heldForAnother};
 ghost use Rattle.held.specs.Posting.{before, holdsBack, isFree, left, posting};
-ghost use Rattle.held.specs.Checked.{apart, behind, heldAll, heldPairs, noneFree, postedBelow, right, unusedAll};
+ghost use Rattle.held.specs.Checked.{apart, comesAfter, heldAll, heldPairs, noneFree, postedBelow, right, unusedAll};
 
 // How many payments a ledger holds at most: the one place that says so.
 pub const HELD: usize = 32;
@@ -45,7 +45,7 @@ fn takes(p: Payment, number: PaymentNo, ledger: LedgerNo, time: Time) -> bool
 
 // Whether a ledger's time is held for another payment than that of a number.
 pub fn is_taken(payments: [Payment; HELD], number: PaymentNo, ledger: LedgerNo, time: Time) -> bool
-    ensures { λ r. ⌜ r ≡ timeTaken payments (number .0) (ledger .0) (time .0) ⌝ }
+    ensures { λ r. ⌜ r ≡ heldForAnother payments (number .0) (ledger .0) (time .0) ⌝ }
 {
     for i in 0..HELD {
         let p = payments[i];
@@ -213,7 +213,7 @@ pub fn none_free(payments: [Payment; HELD], own: LedgerNo) -> bool
 
 // Whether a posted stamp is below a stamped, unposted payment's, and its time below a proposed payment's own time.
 fn is_behind(p: Payment, own: LedgerNo, stamp: Stamp) -> bool
-    ensures { λ r. ⌜ r ≡ behind (own .0) stamp p ⌝ }
+    ensures { λ r. ⌜ r ≡ comesAfter (own .0) stamp p ⌝ }
 {
     let times = p.times;
     if p.phase == payment::STAMPED {
@@ -227,7 +227,7 @@ fn is_behind(p: Payment, own: LedgerNo, stamp: Stamp) -> bool
 
 // Whether every payment is behind the one at a place, where that one is posted.
 fn behind_at(payments: [Payment; HELD], own: LedgerNo, p: Payment) -> bool
-    ensures { λ r. ⌜ r ≡ not (isPosted p) || every limit (λ j. behind (own .0) (stampOf p) (at payments j)) ⌝ }
+    ensures { λ r. ⌜ r ≡ not (isPosted p) || every limit (λ j. comesAfter (own .0) (stampOf p) (at payments j)) ⌝ }
 {
     if p.phase != payment::POSTED {
         return true;

@@ -13,7 +13,7 @@ use Rattle.frame.specs.Digits.{sum}
 use Rattle.frame.specs.Frames.{body, frameValues, notAFrame, total}
 use Rattle.payment.specs.Payments.{lastTime}
 use Rattle.held.specs.Held.{limit, placeOf}
-use Rattle.ledger.specs.State.{isGroup}
+use Rattle.ledger.specs.State.{lawfulSetUp}
 use Rattle.ledger.specs.Sound.{sound}
 use Rattle.ledger.specs.Refusals.{answerTo, firstGiven, incoming, isHeld, judged, refusals}
 use Rattle.ledger.specs.Step.{judging, placeFor, refused, step, taken}
@@ -43,11 +43,11 @@ module _ (l : Ledger) (f : Incoming) (outgoing list : List ℕ) where
 -- what the ranges of a sound state say
 pub clock-range : (l : Ledger) → sound l ≡ true → l .clock .0 ≤ lastTime
 clock-range l s =
-    leb-true _ _ (and-left (leb (l .clock .0) lastTime) (leb (l .count) limit) (and-right (isGroup (l .group) (l .own .0)) _ (clauses l s .range)))
+    leb-true _ _ (and-left (leb (l .clock .0) lastTime) (leb (l .count) limit) (and-right (lawfulSetUp (l .group) (l .own .0)) _ (clauses l s .range)))
 
 pub count-range : (l : Ledger) → sound l ≡ true → l .count ≤ limit
 count-range l s =
-    leb-true _ _ (and-right (leb (l .clock .0) lastTime) (leb (l .count) limit) (and-right (isGroup (l .group) (l .own .0)) _ (clauses l s .range)))
+    leb-true _ _ (and-right (leb (l .clock .0) lastTime) (leb (l .count) limit) (and-right (lawfulSetUp (l .group) (l .own .0)) _ (clauses l s .range)))
 
 -- a frame that is taken has a place
 pub place-range : (l : Ledger) (f : Incoming) → sound l ≡ true → firstGiven (judged l f) ≡ 0 → placeFor l f < limit

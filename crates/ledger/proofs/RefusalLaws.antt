@@ -12,9 +12,9 @@ use lib.Dec.{eqb, leb, ltb}
 use borrow.Author.Tests.{eq-eqb, le-leb, le-ltb, leb-false, leb-true, lt-leb, lt-ltb, ne-eqb}
 use Rattle.common.proofs.TestLaws.{and-go, and-left, and-right, both, and-stop, or-go, or-stop, or-true, split}
 use Rattle.payment.specs.Ledgers.{has}
-use Rattle.payment.specs.Payments.{heardFrom, isWaiting, lastTime, proposes, timeFrom}
-use Rattle.held.specs.Held.{at, limit, placeOf, timeTaken}
-use Rattle.ledger.specs.Refusals.{Row, badSource, badTime, conflict, elsewhere, firstGiven, full, heldOne, isHeld, otherTime, repeat, row, spent}
+use Rattle.payment.specs.Payments.{heardFrom, isWaiting, lastTime, hasProposal, timeFrom}
+use Rattle.held.specs.Held.{at, limit, placeOf, heldForAnother}
+use Rattle.ledger.specs.Refusals.{Row, badSource, badTime, conflict, otherDestinations, firstGiven, noRoom, heldOne, isHeld, anotherTime, repeat, row, clockAtEnd}
 use Rattle.ledger.specs.declared.Incoming.{Incoming}
 use Rattle.ledger.specs.declared.Ledger.{Ledger}
 
@@ -96,66 +96,66 @@ module _ (l : Ledger) (f : Incoming) (found : ℕ) (e : found ≡ placeOf (l .pa
   same-one : at (l .payments) found ≡ heldOne l f
   same-one = ap (at (l .payments)) e
 
-  pub elsewhere-so : found < limit → elsewhere l f ≡ not (eqb (at (l .payments) found .destinations) (f .destinations))
+  pub elsewhere-so : found < limit → otherDestinations l f ≡ not (eqb (at (l .payments) found .destinations) (f .destinations))
   elsewhere-so h = and-go _ (held-so h) ∙ ap (λ p. not (eqb (p .destinations) (f .destinations))) (sym same-one)
 
-  pub elsewhere-not : limit ≤ found → elsewhere l f ≡ false
+  pub elsewhere-not : limit ≤ found → otherDestinations l f ≡ false
   elsewhere-not h = and-stop _ (held-not h)
 
   pub other-heard : found < limit → heardFrom (at (l .payments) found) (f .source .0) ≡ true
-      → otherTime l f ≡ not (eqb (timeFrom (at (l .payments) found) (f .source .0)) (f .time .0))
+      → anotherTime l f ≡ not (eqb (timeFrom (at (l .payments) found) (f .source .0)) (f .time .0))
   other-heard h g =
       and-go _ (held-so h)
       ∙ ap (λ p. heardFrom p (f .source .0) && not (eqb (timeFrom p (f .source .0)) (f .time .0))) (sym same-one)
       ∙ and-go _ g
 
-  pub other-unheard : found < limit → heardFrom (at (l .payments) found) (f .source .0) ≡ false → otherTime l f ≡ false
+  pub other-unheard : found < limit → heardFrom (at (l .payments) found) (f .source .0) ≡ false → anotherTime l f ≡ false
   other-unheard h g =
       and-go _ (held-so h)
       ∙ ap (λ p. heardFrom p (f .source .0) && not (eqb (timeFrom p (f .source .0)) (f .time .0))) (sym same-one)
       ∙ and-stop _ g
 
-  pub other-not : limit ≤ found → otherTime l f ≡ false
+  pub other-not : limit ≤ found → anotherTime l f ≡ false
   other-not h = and-stop _ (held-not h)
 
-  pub repeat-propose : found < limit → f .kind ≡ 2 → repeat l f ≡ proposes (at (l .payments) found) (f .source .0) (f .time .0)
+  pub repeat-propose : found < limit → f .kind ≡ 2 → repeat l f ≡ hasProposal (at (l .payments) found) (f .source .0) (f .time .0)
   repeat-propose h k =
       and-go _ (held-so h)
-      ∙ ap (λ b. cond b (proposes (heldOne l f) (f .source .0) (f .time .0)) (not (isWaiting (heldOne l f)))) (eq-eqb _ _ k)
-      ∙ ap (λ p. proposes p (f .source .0) (f .time .0)) (sym same-one)
+      ∙ ap (λ b. cond b (hasProposal (heldOne l f) (f .source .0) (f .time .0)) (not (isWaiting (heldOne l f)))) (eq-eqb _ _ k)
+      ∙ ap (λ p. hasProposal p (f .source .0) (f .time .0)) (sym same-one)
 
   pub repeat-multicast : found < limit → (f .kind ≡ 2 → ⊥) → repeat l f ≡ not (isWaiting (at (l .payments) found))
   repeat-multicast h k =
       and-go _ (held-so h)
-      ∙ ap (λ b. cond b (proposes (heldOne l f) (f .source .0) (f .time .0)) (not (isWaiting (heldOne l f)))) (ne-eqb _ _ k)
+      ∙ ap (λ b. cond b (hasProposal (heldOne l f) (f .source .0) (f .time .0)) (not (isWaiting (heldOne l f)))) (ne-eqb _ _ k)
       ∙ ap (λ p. not (isWaiting p)) (sym same-one)
 
   pub repeat-not : limit ≤ found → repeat l f ≡ false
   repeat-not h = and-stop _ (held-not h)
 
-  pub full-held : found < limit → full l f ≡ false
+  pub full-held : found < limit → noRoom l f ≡ false
   full-held h = and-stop _ (ap not (held-so h))
 
-  pub full-not : limit ≤ found → full l f ≡ eqb (l .count) limit
+  pub full-not : limit ≤ found → noRoom l f ≡ eqb (l .count) limit
   full-not h = and-go _ (ap not (held-not h))
 
 -- which frames conflict with what is held
 module _ (l : Ledger) (f : Incoming) where
-  pub conflict-elsewhere : elsewhere l f ≡ true → conflict l f ≡ true
+  pub conflict-elsewhere : otherDestinations l f ≡ true → conflict l f ≡ true
   conflict-elsewhere e = or-stop _ e
 
-  pub conflict-multicast : elsewhere l f ≡ false → (f .kind ≡ 2 → ⊥) → conflict l f ≡ false
+  pub conflict-multicast : otherDestinations l f ≡ false → (f .kind ≡ 2 → ⊥) → conflict l f ≡ false
   conflict-multicast e k = or-go _ e ∙ and-stop _ (ne-eqb _ _ k)
 
-  pub conflict-other : elsewhere l f ≡ false → f .kind ≡ 2 → otherTime l f ≡ true → conflict l f ≡ true
+  pub conflict-other : otherDestinations l f ≡ false → f .kind ≡ 2 → anotherTime l f ≡ true → conflict l f ≡ true
   conflict-other e k o = or-go _ e ∙ and-go _ (eq-eqb _ _ k) ∙ or-stop _ o
 
-  pub conflict-taken : elsewhere l f ≡ false → f .kind ≡ 2 → otherTime l f ≡ false
-      → conflict l f ≡ timeTaken (l .payments) (f .payment .0) (f .source .0) (f .time .0)
+  pub conflict-taken : otherDestinations l f ≡ false → f .kind ≡ 2 → anotherTime l f ≡ false
+      → conflict l f ≡ heldForAnother (l .payments) (f .payment .0) (f .source .0) (f .time .0)
   conflict-taken e k o = or-go _ e ∙ and-go _ (eq-eqb _ _ k) ∙ or-go _ o
 
-  pub spent-propose : f .kind ≡ 2 → spent l f ≡ false
+  pub spent-propose : f .kind ≡ 2 → clockAtEnd l f ≡ false
   spent-propose k = and-stop _ (ap not (eq-eqb _ _ k))
 
-  pub spent-multicast : (f .kind ≡ 2 → ⊥) → spent l f ≡ eqb (l .clock .0) lastTime
+  pub spent-multicast : (f .kind ≡ 2 → ⊥) → clockAtEnd l f ≡ eqb (l .clock .0) lastTime
   spent-multicast k = and-go _ (ap not (ne-eqb _ _ k))

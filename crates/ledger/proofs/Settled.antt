@@ -1,16 +1,16 @@
 -- No second outcome satisfies the promise of a public function of this crate.
 -- Assumes nothing.
 use Prim.Native.Nat.{ℕ}
-use mathlib.Core.Path.{_≡_, ap, sym, _∙_}
+use mathlib.Core.Path.{_≡_, ap}
 use mathlib.Core.List.{List}
 use Rattle.common.proofs.Settled.{one-outcome}
-use Rattle.ledger.specs.State.{empty, setUp}
+use Rattle.ledger.specs.State.{fresh, setUp}
 use Rattle.ledger.specs.Step.{Outcome, outcome, step}
 use Rattle.ledger.specs.declared.Ledger.{Ledger}
 use Rattle.ledger.specs.declared.SetUp.{SetUp}
 use Rattle.ledger.specs.declared.Step.{Step}
 
-pub nothing-settled : (r s : Ledger) → r ≡ empty 0 0 → s ≡ empty 0 0 → r ≡ s
+pub nothing-settled : (r s : Ledger) → r ≡ fresh 0 0 → s ≡ fresh 0 0 → r ≡ s
 nothing-settled r s p q = one-outcome p q
 
 pub set-up-settled : (group own : ℕ) (r s : SetUp) → r ≡ setUp group own → s ≡ setUp group own → r ≡ s

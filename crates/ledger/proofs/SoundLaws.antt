@@ -8,7 +8,7 @@ use lib.Dec.{leb}
 use Rattle.common.specs.Places.{every}
 use Rattle.common.proofs.PlaceLaws.{every-all, every-at, every-same}
 use Rattle.common.proofs.TestLaws.{and-both, and-left, and-right, both, same, split}
-use Rattle.payment.specs.Right.{heardRight, lawful, notAbove, numbered, otherNumber, otherTimes, phaseRight}
+use Rattle.payment.specs.Right.{heardRight, lawful, notAboveClock, numberNotZero, numbersDiffer, timesDiffer, phaseRight}
 use Rattle.payment.specs.declared.Payment.{Payment}
 use Rattle.held.specs.Held.{at, limit}
 use Rattle.held.specs.Checked.{apart, heldAll, heldPairs, noneFree, postedBelow, right, unusedAll}
@@ -17,13 +17,13 @@ use Rattle.ledger.specs.declared.Ledger.{Ledger}
 
 pub record Sound (l : Ledger) : Type 0 where
   pub range : inRange l ≡ true
-  pub numbers : pairs l otherNumber ≡ true
-  pub number : each l numbered ≡ true
+  pub numbers : pairs l numbersDiffer ≡ true
+  pub number : each l numberNotZero ≡ true
   pub destinations : each l (lawful (l .group) (l .own .0)) ≡ true
   pub heard : each l heardRight ≡ true
   pub unused : unusedAll (l .payments) (l .count) ≡ true
-  pub times : pairs l otherTimes ≡ true
-  pub clock : each l (notAbove (l .own .0) (l .clock .0)) ≡ true
+  pub times : pairs l timesDiffer ≡ true
+  pub clock : each l (notAboveClock (l .own .0) (l .clock .0)) ≡ true
   pub phase : each l (phaseRight (l .own .0)) ≡ true
   pub free : noneFree (l .payments) (l .own .0) ≡ true
   pub posted : postedBelow (l .payments) (l .own .0) ≡ true
@@ -32,23 +32,23 @@ pub clauses : (l : Ledger) → sound l ≡ true → Sound l
 unfolding sound
 clauses l e =
     let e₁ = and-right (inRange l) _ e in
-    let e₂ = and-right (pairs l otherNumber) _ e₁ in
-    let e₃ = and-right (each l numbered) _ e₂ in
+    let e₂ = and-right (pairs l numbersDiffer) _ e₁ in
+    let e₃ = and-right (each l numberNotZero) _ e₂ in
     let e₄ = and-right (each l (lawful (l .group) (l .own .0))) _ e₃ in
     let e₅ = and-right (each l heardRight) _ e₄ in
     let e₆ = and-right (unusedAll (l .payments) (l .count)) _ e₅ in
-    let e₇ = and-right (pairs l otherTimes) _ e₆ in
-    let e₈ = and-right (each l (notAbove (l .own .0) (l .clock .0))) _ e₇ in
+    let e₇ = and-right (pairs l timesDiffer) _ e₆ in
+    let e₈ = and-right (each l (notAboveClock (l .own .0) (l .clock .0))) _ e₇ in
     let e₉ = and-right (each l (phaseRight (l .own .0))) _ e₈ in
     record {
       range = and-left (inRange l) _ e;
-      numbers = and-left (pairs l otherNumber) _ e₁;
-      number = and-left (each l numbered) _ e₂;
+      numbers = and-left (pairs l numbersDiffer) _ e₁;
+      number = and-left (each l numberNotZero) _ e₂;
       destinations = and-left (each l (lawful (l .group) (l .own .0))) _ e₃;
       heard = and-left (each l heardRight) _ e₄;
       unused = and-left (unusedAll (l .payments) (l .count)) _ e₅;
-      times = and-left (pairs l otherTimes) _ e₆;
-      clock = and-left (each l (notAbove (l .own .0) (l .clock .0))) _ e₇;
+      times = and-left (pairs l timesDiffer) _ e₆;
+      clock = and-left (each l (notAboveClock (l .own .0) (l .clock .0))) _ e₇;
       phase = and-left (each l (phaseRight (l .own .0))) _ e₈;
       free = and-left (noneFree (l .payments) (l .own .0)) _ e₉;
       posted = and-right (noneFree (l .payments) (l .own .0)) _ e₉;
@@ -98,23 +98,23 @@ module _ (payments : List Payment) (count : ℕ) where
 module _ (l : Ledger) where
   -- the code's check of each held payment
   right-clauses : heldAll (l .payments) (l .count) (right (l .group) (l .own .0) (l .clock .0))
-      ≡ each l numbered && (each l (lawful (l .group) (l .own .0)) && (each l heardRight && (each l (notAbove (l .own .0) (l .clock .0)) && each l (phaseRight (l .own .0)))))
+      ≡ each l numberNotZero && (each l (lawful (l .group) (l .own .0)) && (each l heardRight && (each l (notAboveClock (l .own .0) (l .clock .0)) && each l (phaseRight (l .own .0)))))
   right-clauses =
       let own = l .own .0 in
-      let late : Payment → Bool = λ p. notAbove own (l .clock .0) p && phaseRight own p in
+      let late : Payment → Bool = λ p. notAboveClock own (l .clock .0) p && phaseRight own p in
       let heard : Payment → Bool = λ p. heardRight p && late p in
-      all-and (l .payments) (l .count) numbered (λ p. lawful (l .group) own p && heard p)
-      ∙ ap (λ b. each l numbered && b)
+      all-and (l .payments) (l .count) numberNotZero (λ p. lawful (l .group) own p && heard p)
+      ∙ ap (λ b. each l numberNotZero && b)
       (all-and (l .payments) (l .count) (lawful (l .group) own) heard
       ∙ ap (λ b. each l (lawful (l .group) own) && b)
       (all-and (l .payments) (l .count) heardRight late
-      ∙ ap (λ b. each l heardRight && b) (all-and (l .payments) (l .count) (notAbove own (l .clock .0)) (phaseRight own))))
+      ∙ ap (λ b. each l heardRight && b) (all-and (l .payments) (l .count) (notAboveClock own (l .clock .0)) (phaseRight own))))
 
   pub sound-right : Sound l → heldAll (l .payments) (l .count) (right (l .group) (l .own .0) (l .clock .0)) ≡ true
   sound-right s = right-clauses ∙ and-both (s .number) (and-both (s .destinations) (and-both (s .heard) (and-both (s .clock) (s .phase))))
 
   pub sound-apart : Sound l → heldPairs (l .payments) (l .count) apart ≡ true
-  sound-apart s = pairs-and (l .payments) (l .count) otherNumber otherTimes ∙ and-both (s .numbers) (s .times)
+  sound-apart s = pairs-and (l .payments) (l .count) numbersDiffer timesDiffer ∙ and-both (s .numbers) (s .times)
 
   -- a check that every sound state passes is failed by no sound state
   pub not-sound : {b : Bool} → (Sound l → b ≡ true) → b ≡ false → sound l ≡ false
@@ -125,22 +125,22 @@ module _ (l : Ledger) where
       → sound l ≡ postedBelow (l .payments) (l .own .0)
   sound-all r e a u f =
       let e₁ = sym right-clauses ∙ e in
-      let e₂ = and-right (each l numbered) _ e₁ in
+      let e₂ = and-right (each l numberNotZero) _ e₁ in
       let e₃ = and-right (each l (lawful (l .group) (l .own .0))) _ e₂ in
       let e₄ = and-right (each l heardRight) _ e₃ in
-      let a₁ = sym (pairs-and (l .payments) (l .count) otherNumber otherTimes) ∙ a in
+      let a₁ = sym (pairs-and (l .payments) (l .count) numbersDiffer timesDiffer) ∙ a in
       same (sound l) (postedBelow (l .payments) (l .own .0))
       (λ t. clauses l t .posted)
       (λ t. sound-so l record {
         range = r;
-        numbers = and-left (pairs l otherNumber) (pairs l otherTimes) a₁;
-        number = and-left (each l numbered) _ e₁;
+        numbers = and-left (pairs l numbersDiffer) (pairs l timesDiffer) a₁;
+        number = and-left (each l numberNotZero) _ e₁;
         destinations = and-left (each l (lawful (l .group) (l .own .0))) _ e₂;
         heard = and-left (each l heardRight) _ e₃;
         unused = u;
-        times = and-right (pairs l otherNumber) (pairs l otherTimes) a₁;
-        clock = and-left (each l (notAbove (l .own .0) (l .clock .0))) _ e₄;
-        phase = and-right (each l (notAbove (l .own .0) (l .clock .0))) _ e₄;
+        times = and-right (pairs l numbersDiffer) (pairs l timesDiffer) a₁;
+        clock = and-left (each l (notAboveClock (l .own .0) (l .clock .0))) _ e₄;
+        phase = and-right (each l (notAboveClock (l .own .0) (l .clock .0))) _ e₄;
         free = f;
         posted = t;
       })

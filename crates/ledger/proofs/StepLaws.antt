@@ -10,7 +10,7 @@ use Rattle.payment.specs.Payments.{stampOf, stamped}
 use Rattle.held.specs.Held.{at, limit, placeOf}
 use Rattle.ledger.specs.State.{newPayment}
 use Rattle.ledger.specs.Refusals.{heldOne}
-use Rattle.ledger.specs.Step.{countFor, inPhase, multicastRule, ownTime, paymentFor, placeFor, proposeRule, received, recipientsOf, sent, stampRule}
+use Rattle.ledger.specs.Step.{countFor, inPhase, multicastRule, newOwnTime, paymentFor, placeFor, proposeRule, afterHearing, recipientsOf, sent, stampRule}
 use Rattle.frame.specs.Frames.{writing}
 use Rattle.frame.specs.declared.Frame.the-variants.{Propose}
 use Rattle.payment.specs.Ledgers.{without}
@@ -60,10 +60,10 @@ module _ (l : Ledger) (i : ℕ) where
 
 -- whose frame it is
 module _ (l : Ledger) (f : Incoming) where
-  pub received-propose : f .kind ≡ 2 → received l f ≡ proposeRule l f
+  pub received-propose : f .kind ≡ 2 → afterHearing l f ≡ proposeRule l f
   received-propose e = ap (λ b. cond b (proposeRule l f) (multicastRule l f)) (eq-eqb _ _ e)
 
-  pub received-multicast : (f .kind ≡ 2 → ⊥) → received l f ≡ multicastRule l f
+  pub received-multicast : (f .kind ≡ 2 → ⊥) → afterHearing l f ≡ multicastRule l f
   received-multicast n = ap (λ b. cond b (proposeRule l f) (multicastRule l f)) (ne-eqb _ _ n)
 
   pub recipients-none : f .kind ≡ 2 → recipientsOf l f ≡ 0
@@ -73,8 +73,8 @@ module _ (l : Ledger) (f : Incoming) where
   recipients-others n = ap (λ b. cond b 0 (without (f .destinations) (l .own .0))) (ne-eqb _ _ n)
 
   pub sent-none : (outgoing : List ℕ) → recipientsOf l f ≡ 0 → sent l f outgoing ≡ outgoing
-  sent-none outgoing e = ap (λ b. cond b outgoing (writing (Propose (f .payment) (f .destinations) (l .own) (ownTime l)) outgoing .buffer)) (eq-eqb _ _ e)
+  sent-none outgoing e = ap (λ b. cond b outgoing (writing (Propose (f .payment) (f .destinations) (l .own) (newOwnTime l)) outgoing .buffer)) (eq-eqb _ _ e)
 
   pub sent-some : (outgoing : List ℕ) → (recipientsOf l f ≡ 0 → ⊥)
-      → sent l f outgoing ≡ writing (Propose (f .payment) (f .destinations) (l .own) (ownTime l)) outgoing .buffer
-  sent-some outgoing n = ap (λ b. cond b outgoing (writing (Propose (f .payment) (f .destinations) (l .own) (ownTime l)) outgoing .buffer)) (ne-eqb _ _ n)
+      → sent l f outgoing ≡ writing (Propose (f .payment) (f .destinations) (l .own) (newOwnTime l)) outgoing .buffer
+  sent-some outgoing n = ap (λ b. cond b outgoing (writing (Propose (f .payment) (f .destinations) (l .own) (newOwnTime l)) outgoing .buffer)) (ne-eqb _ _ n)

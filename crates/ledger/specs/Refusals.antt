@@ -7,9 +7,9 @@ use lib.ListN.{getD, length}
 use lib.Dec.{eqb, ltb}
 use Rattle.frame.specs.Frames.{Values, frameValues, notAFrame, propose, total}
 use Rattle.payment.specs.Ledgers.{has}
-use Rattle.payment.specs.Payments.{heardFrom, isTime, isWaiting, lastTime, proposes, timeFrom, unlawful}
+use Rattle.payment.specs.Payments.{heardFrom, isTime, isWaiting, lastTime, hasProposal, timeFrom, unlawful}
 use Rattle.payment.specs.declared.Payment.{Payment}
-use Rattle.held.specs.Held.{at, holds, limit, placeOf, timeTaken}
+use Rattle.held.specs.Held.{at, holds, limit, placeOf, heldForAnother}
 use Rattle.ledger.specs.Sound.{sound}
 use Rattle.ledger.specs.declared.Incoming.{Incoming}
 use Rattle.ledger.specs.declared.Ledger.{Ledger}
@@ -38,13 +38,15 @@ incoming v =
       time = record { 0 = getD (v .numbers) 3 0 };
     }
 
+-- a frame that was read is a MULTICAST or a PROPOSE
 abbrev pub isPropose : Incoming → Bool
 isPropose f = eqb (f .kind) (propose .kind)
 
--- the payment held under the frame's number, where one is held
+-- a payment is held under the frame's number
 abbrev pub isHeld : Ledger → Incoming → Bool
 isHeld l f = holds (l .payments) (f .payment .0)
 
+-- that payment
 abbrev pub heldOne : Ledger → Incoming → Payment
 heldOne l f = at (l .payments) (placeOf (l .payments) (f .payment .0))
 
@@ -60,36 +62,36 @@ abbrev pub badTime : Incoming → Bool
 badTime f = isPropose f && not (isTime (f .time .0))
 
 -- 8: payment held with other destinations
-abbrev pub elsewhere : Ledger → Incoming → Bool
-elsewhere l f = isHeld l f && not (eqb (heldOne l f .destinations) (f .destinations))
+abbrev pub otherDestinations : Ledger → Incoming → Bool
+otherDestinations l f = isHeld l f && not (eqb (heldOne l f .destinations) (f .destinations))
 
 -- 8: another time held from this source for it
-abbrev pub otherTime : Ledger → Incoming → Bool
-otherTime l f =
+abbrev pub anotherTime : Ledger → Incoming → Bool
+anotherTime l f =
     isHeld l f && (heardFrom (heldOne l f) (f .source .0) && not (eqb (timeFrom (heldOne l f) (f .source .0)) (f .time .0)))
 
 -- 8: payment held with other destinations; or PROPOSE: another time held from this source for it, or this source's same time
 -- held for another payment, as a proposal or in a stamp
 abbrev pub conflict : Ledger → Incoming → Bool
 conflict l f =
-    elsewhere l f
-    || (isPropose f && (otherTime l f || timeTaken (l .payments) (f .payment .0) (f .source .0) (f .time .0)))
+    otherDestinations l f
+    || (isPropose f && (anotherTime l f || heldForAnother (l .payments) (f .payment .0) (f .source .0) (f .time .0)))
 
 -- 9: a repeat: MULTICAST of a payment past waiting, or PROPOSE already held
 abbrev pub repeat : Ledger → Incoming → Bool
 repeat l f =
     isHeld l f
-    && cond (isPropose f) (proposes (heldOne l f) (f .source .0) (f .time .0)) (not (isWaiting (heldOne l f)))
+    && cond (isPropose f) (hasProposal (heldOne l f) (f .source .0) (f .time .0)) (not (isWaiting (heldOne l f)))
 
 -- 10: payment not held and 32 are held
-abbrev pub full : Ledger → Incoming → Bool
-full l f = not (isHeld l f) && eqb (l .count) limit
+abbrev pub noRoom : Ledger → Incoming → Bool
+noRoom l f = not (isHeld l f) && eqb (l .count) limit
 
 -- 11: MULTICAST and the clock is 60,000
-abbrev pub spent : Ledger → Incoming → Bool
-spent l f = not (isPropose f) && eqb (l .clock .0) lastTime
+abbrev pub clockAtEnd : Ledger → Incoming → Bool
+clockAtEnd l f = not (isPropose f) && eqb (l .clock .0) lastTime
 
--- the rows that judge a frame's values
+-- the rows that judge a frame's values: 4, payment number 0, to 11
 abbrev pub judged : Ledger → Incoming → List Row
 judged l f =
     row 4 (eqb (f .payment .0) 0)
@@ -98,11 +100,12 @@ judged l f =
     ∷ row 7 (badTime f)
     ∷ row 8 (conflict l f)
     ∷ row 9 (repeat l f)
-    ∷ row 10 (full l f)
-    ∷ row 11 (spent l f)
+    ∷ row 10 (noRoom l f)
+    ∷ row 11 (clockAtEnd l f)
     ∷ []
 
--- the whole table
+-- the whole table: 1, the state is not sound; 2, outgoing buffer under 9 bytes (a PROPOSE's total), or posting list under 32
+-- places; 3, empty frame, unknown kind, or length not exactly the kind's; then the rows that judge the values
 abbrev pub refusals : Ledger → List ℕ → List ℕ → List ℕ → List Row
 refusals l frame outgoing list =
     row 1 (not (sound l))

@@ -25,22 +25,22 @@ newPayment number destinations =
 abbrev pub unusedPlace : Payment
 unusedPlace = newPayment 0 0
 
--- a ledger that holds nothing
-abbrev pub empty : ℕ → ℕ → Ledger
-empty group own =
+-- a fresh ledger holds nothing, and its clock is 0; that of number 0 of group 0 is the all-zero state
+abbrev pub fresh : ℕ → ℕ → Ledger
+fresh group own =
     record {
       group = group;
       own = record { 0 = own };
-      clock = noTime;
+      clock = record { 0 = 0 };
       count = 0;
       payments = replicate limit unusedPlace;
     }
 
--- ledgers are 1 to N, N from 1 to 8
-abbrev pub isGroup : ℕ → ℕ → Bool
-isGroup group own = leb 1 group && (leb group 8 && (leb 1 own && leb own group))
+-- ledgers are 1 to N, N from 1 to 8 (1, at set-up: N outside 1..8 or own number outside 1..N)
+abbrev pub lawfulSetUp : ℕ → ℕ → Bool
+lawfulSetUp group own = leb 1 group && (leb group 8 && (leb 1 own && leb own group))
 
 -- set-up refused, by answer 1, returns the all-zero state; any other hands back the fresh state of ledger `own` of N
 unfoldable pub setUp : ℕ → ℕ → SetUp
 setUp group own =
-    cond (isGroup group own) (record { state = empty group own; answer = 0 }) (record { state = empty 0 0; answer = 1 })
+    cond (lawfulSetUp group own) (record { state = fresh group own; answer = 0 }) (record { state = fresh 0 0; answer = 1 })

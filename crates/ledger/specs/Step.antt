@@ -12,15 +12,16 @@ use Rattle.payment.specs.Ledgers.{howMany, without}
 use Rattle.payment.specs.Payments.{allHeard, hear, proposed, stampOf, stamped}
 use Rattle.payment.specs.declared.Payment.{Payment}
 use Rattle.held.specs.Held.{at, placeOf}
-use Rattle.held.specs.Posting.{posting}
+use Rattle.held.specs.Posting.{written}
 use Rattle.ledger.specs.State.{newPayment}
 use Rattle.ledger.specs.Refusals.{answerTo, firstGiven, heldOne, incoming, isHeld, isPropose, judged}
 use Rattle.ledger.specs.declared.Incoming.{Incoming}
 use Rattle.ledger.specs.declared.Ledger.{Ledger}
-use Rattle.ledger.specs.declared.Settled.{Settled}
+use Rattle.ledger.specs.declared.PostedLedger.{PostedLedger}
 use Rattle.ledger.specs.declared.Step.{Step}
 
--- take the payment in if it isn't held: the payment, its place (a new one goes to the first unused place), and the count
+-- take the payment in if it isn't held: the payment, its place (a new one goes to the first unused place, which in a sound state
+-- is the one after the held ones), and the count
 abbrev pub paymentFor : Ledger → Incoming → Payment
 paymentFor l f = cond (isHeld l f) (heldOne l f) (newPayment (f .payment .0) (f .destinations))
 
@@ -46,21 +47,21 @@ keeping l f clock p =
     }
 
 -- the clock rises by 1 and is the own time
-abbrev pub ownTime : Ledger → Time
-ownTime l = record { 0 = l .clock .0 + 1 }
+abbrev pub newOwnTime : Ledger → Time
+newOwnTime l = record { 0 = l .clock .0 + 1 }
 
 -- rule 1, MULTICAST: take the payment in if it isn't held; the clock rises by 1 and is the own time
 unfoldable pub multicastRule : Ledger → Incoming → Ledger
-multicastRule l f = keeping l f (ownTime l) (inPhase proposed (hear (paymentFor l f) (l .own .0) (ownTime l)))
+multicastRule l f = keeping l f (newOwnTime l) (inPhase proposed (hear (paymentFor l f) (l .own .0) (newOwnTime l)))
 
 -- rule 2, PROPOSE: take the payment in as waiting if it isn't held, and keep the source's time; the clock is not touched
 unfoldable pub proposeRule : Ledger → Incoming → Ledger
 proposeRule l f = keeping l f (l .clock) (hear (paymentFor l f) (f .source .0) (f .time))
 
-abbrev pub received : Ledger → Incoming → Ledger
-received l f = cond (isPropose f) (proposeRule l f) (multicastRule l f)
+abbrev pub afterHearing : Ledger → Incoming → Ledger
+afterHearing l f = cond (isPropose f) (proposeRule l f) (multicastRule l f)
 
--- rule 3: once every destination of the payment is heard, it is stamped with the greatest proposal, and the clock becomes the
+-- rule 3 (a stamped or posted payment never comes here: its frames answer 8 or 9): once every destination of the payment is heard, it is stamped with the greatest proposal, and the clock becomes the
 -- larger of itself and the stamp's time
 unfoldable pub stampRule : Ledger → ℕ → Ledger
 stampRule l i =
@@ -76,25 +77,25 @@ stampRule l i =
     l
 
 -- after rules 1 to 3
-abbrev pub heardOf : Ledger → Incoming → Ledger
-heardOf l f = stampRule (received l f) (placeFor l f)
+abbrev pub afterStamping : Ledger → Incoming → Ledger
+afterStamping l f = stampRule (afterHearing l f) (placeFor l f)
 
 -- rule 4: then post; what that leaves: the ledger, the number of postings, and the whole posting list
-pub record Settling : Type 0 where
+pub record AfterPosting : Type 0 where
   pub state : Ledger
   pub count : ℕ
   pub list : List ℕ
 
-unfoldable pub settling : Ledger → List ℕ → Settling
-settling l list =
-    let posts = posting (l .payments) (l .own .0) list in
+unfoldable pub postRule : Ledger → List ℕ → AfterPosting
+postRule l list =
+    let posts = written (l .payments) (l .own .0) list in
     record {
       state = record { group = l .group; own = l .own; clock = l .clock; count = l .count; payments = posts .payments };
       count = posts .count;
       list = posts .list;
     }
 
-abbrev pub left : Settled → List ℕ → Settling
+abbrev pub left : PostedLedger → List ℕ → AfterPosting
 left r list = record { state = r .state; count = r .count; list = list }
 
 -- recipients are the other destinations; a PROPOSE has none
@@ -105,7 +106,7 @@ recipientsOf l f = cond (isPropose f) 0 (without (f .destinations) (l .own .0))
 abbrev pub sent : Ledger → Incoming → List ℕ → List ℕ
 sent l f outgoing =
     cond (eqb (recipientsOf l f) 0) outgoing
-    (writing (Propose (f .payment) (f .destinations) (l .own) (ownTime l)) outgoing .buffer)
+    (writing (Propose (f .payment) (f .destinations) (l .own) (newOwnTime l)) outgoing .buffer)
 
 -- all that a call hands back, and the two buffers whole
 pub record Outcome : Type 0 where
@@ -135,13 +136,14 @@ abbrev pub refused : Ledger → ℕ → List ℕ → List ℕ → Outcome
 refused l answer outgoing list =
     record { state = l; answer = answer; recipients = 0; copies = 0; postings = 0; outgoing = outgoing; list = list }
 
+-- for the code: a refusal without the buffers
 abbrev pub refusing : Ledger → ℕ → Step
 refusing l answer = record { state = l; answer = answer; recipients = 0; copies = 0; postings = 0 }
 
 -- a frame that is taken: rules 1 to 4
 abbrev pub taken : Ledger → Incoming → List ℕ → List ℕ → Outcome
 taken l f outgoing list =
-    let after = settling (heardOf l f) list in
+    let after = postRule (afterStamping l f) list in
     record {
       state = after .state;
       answer = 0;
@@ -152,7 +154,7 @@ taken l f outgoing list =
       list = after .list;
     }
 
--- a frame whose values are judged: taken where no row of the table applies
+-- for the code: a frame that was read, judged by rows 4 to 11 alone
 unfoldable pub judging : Ledger → Incoming → List ℕ → List ℕ → Outcome
 judging l f outgoing list =
     let answer = firstGiven (judged l f) in

@@ -11,18 +11,26 @@ use frame::Time;
 use held::HELD;
 use payment::Payment;
 ghost use mathlib.Core.Path.{_≡_};
+ghost use Prim.Native.Nat.{_≤_};
 ghost use mathlib.Core.Bool.{not, true};
 ghost use Prim.Native.Nat.{_<_, max};
 ghost use Rattle.frame.specs.Frames.{valuesOf};
-ghost use Rattle.ledger.specs.State.{empty, isGroup, newPayment, setUp};
+ghost use Rattle.held.specs.Held.{limit};
+ghost use lib.ListN.{length};
+ghost use Rattle.ledger.specs.State.{fresh, lawfulSetUp, newPayment, setUp};
 ghost use Rattle.ledger.specs.Sound.{sound};
 ghost use Rattle.ledger.specs.Refusals.{badTime, incoming};
 ghost use Rattle.ledger.specs.Step.{outcome, judging, refusing, step, taken};
 
+// What a ledger keeps.
 pub struct Ledger {
+    // N: the ledgers are 1 to this.
     pub group: u8,
+    // This ledger's number.
     pub own: LedgerNo,
+    // From 0 to 60,000.
     pub clock: Time,
+    // How many payments are held: they stand at the first places.
     pub count: u16,
     pub payments: [Payment; HELD],
 }
@@ -32,16 +40,21 @@ pub struct SetUp {
     pub answer: u8,
 }
 
-struct Settled {
+struct PostedLedger {
     state: Ledger,
     count: usize,
 }
 
+// What a step hands back.
 pub struct Step {
     pub state: Ledger,
+    // The number in the table: 0 taken, 1 to 11 refused or a repeat.
     pub answer: u8,
+    // The ledgers that the outgoing frame goes to, as a byte.
     pub recipients: u8,
+    // How many recipients there are.
     pub copies: u32,
+    // How many numbers were written into the posting list.
     pub postings: usize,
 }
 
@@ -76,7 +89,7 @@ fn new_payment(number: PaymentNo, destinations: u8) -> Payment
 
 // The all-zero state, which is not sound.
 pub fn nothing() -> Ledger
-    ensures { λ r. ⌜ r ≡ empty 0 0 ⌝ }
+    ensures { λ r. ⌜ r ≡ fresh 0 0 ⌝ }
 {
     Ledger {
         group: 0,
@@ -140,7 +153,7 @@ fn later(a: Time, b: Time) -> Time
 
 // Whether a ledger can be number `own` of a group.
 fn is_group(group: u8, own: LedgerNo) -> bool
-    ensures { λ r. ⌜ r ≡ isGroup group (own .0) ⌝ }
+    ensures { λ r. ⌜ r ≡ lawfulSetUp group (own .0) ⌝ }
 {
     if group < 1 {
         return false;
@@ -176,7 +189,7 @@ impl Ledger {
 
     // A frame that was read: the first refusal that applies, or the rules.
     fn judge(mut self, f: Incoming, outgoing: &mut [u8], postings: &mut [u32]) -> Step
-        requires { ⌜ sound self ≡ true ⌝ }
+        requires { ⌜ (sound self ≡ true) × (limit ≤ length (now postings)) ⌝ }
         ensures { λ r. ⌜ outcome r (now (outgoing .exit)) (now (postings .exit)) ≡ judging self f (now (outgoing .entry)) (now (postings .entry)) ⌝ }
     {
         let payments = self.payments;

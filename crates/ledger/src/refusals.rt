@@ -8,7 +8,7 @@ ghost use mathlib.Core.Path.{_≡_};
 ghost use mathlib.Core.Bool.{true};
 ghost use Prim.Native.Nat.{_<_};
 ghost use Rattle.held.specs.Held.{placeOf};
-ghost use Rattle.ledger.specs.Refusals.{badSource, conflict, elsewhere, firstGiven, full, judged, otherTime, repeat, spent};
+ghost use Rattle.ledger.specs.Refusals.{badSource, conflict, otherDestinations, firstGiven, noRoom, judged, anotherTime, repeat, clockAtEnd};
 
 impl Ledger {
     fn bad_source(self, f: Incoming) -> bool
@@ -32,7 +32,7 @@ impl Ledger {
     // Whether the payment is held with other destinations.
     fn is_elsewhere(self, f: Incoming, found: usize) -> bool
         requires { ⌜ found ≡ placeOf (self .payments) (f .payment .0) ⌝ }
-        ensures { λ r. ⌜ r ≡ elsewhere self f ⌝ }
+        ensures { λ r. ⌜ r ≡ otherDestinations self f ⌝ }
     {
         if found < HELD {
             let p = self.payments[found];
@@ -44,7 +44,7 @@ impl Ledger {
     // Whether another time is held from this source for the payment.
     fn has_other_time(self, f: Incoming, found: usize) -> bool
         requires { ⌜ found ≡ placeOf (self .payments) (f .payment .0) ⌝ }
-        ensures { λ r. ⌜ r ≡ otherTime self f ⌝ }
+        ensures { λ r. ⌜ r ≡ anotherTime self f ⌝ }
     {
         if found < HELD {
             let p = self.payments[found];
@@ -89,7 +89,7 @@ impl Ledger {
 
     fn is_full(self, f: Incoming, found: usize) -> bool
         requires { ⌜ found ≡ placeOf (self .payments) (f .payment .0) ⌝ }
-        ensures { λ r. ⌜ r ≡ full self f ⌝ }
+        ensures { λ r. ⌜ r ≡ noRoom self f ⌝ }
     {
         if found < HELD {
             return false;
@@ -98,7 +98,7 @@ impl Ledger {
     }
 
     fn is_spent(self, f: Incoming) -> bool
-        ensures { λ r. ⌜ r ≡ spent self f ⌝ }
+        ensures { λ r. ⌜ r ≡ clockAtEnd self f ⌝ }
     {
         if f.kind == PROPOSE {
             return false;

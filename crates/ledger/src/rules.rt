@@ -2,7 +2,7 @@
 use crate::Incoming;
 use crate::Ledger;
 use crate::PROPOSE;
-use crate::Settled;
+use crate::PostedLedger;
 use crate::Step;
 use crate::later;
 use crate::new_payment;
@@ -12,10 +12,11 @@ use held::HELD;
 use payment::Payment;
 ghost use mathlib.Core.Path.{_≡_};
 ghost use mathlib.Core.Bool.{not};
+ghost use lib.ListN.{length};
 ghost use Prim.Native.Nat.{_+_, _≤_, _<_};
 ghost use Rattle.payment.specs.Payments.{lastTime};
 ghost use Rattle.held.specs.Held.{limit, placeOf};
-ghost use Rattle.ledger.specs.Step.{countFor, left, multicastRule, outcome, paymentFor, placeFor, proposeRule, received, recipientsOf, sent, settling, stampRule, taken};
+ghost use Rattle.ledger.specs.Step.{countFor, left, multicastRule, outcome, paymentFor, placeFor, proposeRule, afterHearing, recipientsOf, sent, postRule, stampRule, taken};
 
 impl Ledger {
     // The frame's payment: the one that is held, or a new one.
@@ -81,7 +82,7 @@ impl Ledger {
         self
     }
 
-    // Rule 3: once every destination is heard, the payment is stamped, and the clock is not below the stamp.
+    // Rule 3: once every destination is heard, the payment is stamped, and the clock becomes the larger of itself and the stamp's time.
     fn stamp(mut self, place: usize) -> Ledger
         requires { ⌜ place < limit ⌝ }
         ensures { λ r. ⌜ r ≡ stampRule self place ⌝ }
@@ -97,14 +98,15 @@ impl Ledger {
     }
 
     // Rule 4: all that are free are posted.
-    fn post(mut self, list: &mut [u32]) -> Settled
-        ensures { λ r. ⌜ left r (now (list .exit)) ≡ settling self (now (list .entry)) ⌝ }
+    fn post(mut self, list: &mut [u32]) -> PostedLedger
+        requires { ⌜ limit ≤ length (now list) ⌝ }
+        ensures { λ r. ⌜ left r (now (list .exit)) ≡ postRule self (now (list .entry)) ⌝ }
     {
         let payments = self.payments;
         let done = held::post(payments, self.own, list);
         let after = done.payments;
         self.payments = after;
-        Settled {
+        PostedLedger {
             state: self,
             count: done.count,
         }
@@ -141,7 +143,7 @@ impl Ledger {
     // Rules 1 and 2.
     fn receive(mut self, f: Incoming, found: usize) -> Ledger
         requires { ⌜ (found ≡ placeOf (self .payments) (f .payment .0)) × (self .count ≤ limit) × (placeFor self f < limit) × (self .clock .0 ≤ lastTime) ⌝ }
-        ensures { λ r. ⌜ r ≡ received self f ⌝ }
+        ensures { λ r. ⌜ r ≡ afterHearing self f ⌝ }
     {
         if f.kind == PROPOSE {
             return self.propose(f, found);
@@ -157,7 +159,7 @@ impl Ledger {
         outgoing: &mut [u8],
         postings: &mut [u32],
     ) -> Step
-        requires { ⌜ (found ≡ placeOf (self .payments) (f .payment .0)) × (self .count ≤ limit) × (placeFor self f < limit) × (self .clock .0 ≤ lastTime) ⌝ }
+        requires { ⌜ (found ≡ placeOf (self .payments) (f .payment .0)) × (self .count ≤ limit) × (placeFor self f < limit) × (self .clock .0 ≤ lastTime) × (limit ≤ length (now postings)) ⌝ }
         ensures { λ r. ⌜ outcome r (now (outgoing .exit)) (now (postings .exit)) ≡ taken self f (now (outgoing .entry)) (now (postings .entry)) ⌝ }
     {
         let recipients = self.recipients(f);

@@ -12,9 +12,9 @@ use Rattle.common.proofs.PlaceLaws.{every-same}
 use Rattle.common.proofs.TestLaws.{and-both, and-false, and-true, and-left, and-right, or-false, split}
 use Rattle.frame.specs.declared.Time.{Time}
 use Rattle.payment.specs.Ledgers.{has}
-use Rattle.payment.specs.Payments.{greatest, hasStamp, heardFrom, keeps, proposal, proposes, stampFrom, stampOf, timeFrom, timeIn}
+use Rattle.payment.specs.Payments.{greatest, hasStamp, heardFrom, keeps, proposal, hasProposal, stampIsOf, stampOf, timeFrom, timeIn}
 use Rattle.payment.specs.Stamps.{below}
-use Rattle.payment.specs.Right.{otherTimes}
+use Rattle.payment.specs.Right.{timesDiffer}
 use Rattle.payment.specs.declared.Payment.{Payment}
 use Rattle.payment.specs.declared.Stamp.{Stamp}
 
@@ -38,36 +38,36 @@ greatest-proposed times heard (suc n) l e =
     go ih false t q = ih q
 
 -- a time that stands in a payment's stamp was proposed to it
-pub stamp-proposed : (p : Payment) (l : ℕ) → stampFrom p (suc l) ≡ true
+pub stamp-proposed : (p : Payment) (l : ℕ) → stampIsOf p (suc l) ≡ true
     → (heardFrom p (suc l) ≡ true) × (timeFrom p (suc l) ≡ stampOf p .time .0)
 stamp-proposed p l e =
     let q = greatest-proposed (p .times) (p .heard) 8 l (eqb-true _ _ (and-right (leb 1 (suc l)) _ (and-right (hasStamp p) (leb 1 (suc l) && eqb (stampOf p .ledger .0) (suc l)) e))) in
     (q .0, ap (λ t. t .0) (q .1))
 
 -- so it is enough to look at proposals
-pub keeps-proposes : (p : Payment) (k t : ℕ) → keeps p k t ≡ proposes p k t
+pub keeps-proposes : (p : Payment) (k t : ℕ) → keeps p k t ≡ hasProposal p k t
 unfolding has
 keeps-proposes p zero t = ap (λ b. b && eqb (stampOf p .time .0) t) (and-false (hasStamp p))
 keeps-proposes p (suc l) t =
-    split (stampFrom p (suc l) && eqb (stampOf p .time .0) t)
-    (λ s. let q = stamp-proposed p l (and-left (stampFrom p (suc l)) _ s) in
-    let kept : proposes p (suc l) t ≡ true =
-    and-both (q .0) (eq-eqb _ _ (q .1 ∙ eqb-true _ _ (and-right (stampFrom p (suc l)) (eqb (stampOf p .time .0) t) s))) in
-    ap (λ b. b || (stampFrom p (suc l) && eqb (stampOf p .time .0) t)) kept ∙ sym kept)
-    (λ s. ap (λ b. proposes p (suc l) t || b) s ∙ or-false (proposes p (suc l) t))
+    split (stampIsOf p (suc l) && eqb (stampOf p .time .0) t)
+    (λ s. let q = stamp-proposed p l (and-left (stampIsOf p (suc l)) _ s) in
+    let kept : hasProposal p (suc l) t ≡ true =
+    and-both (q .0) (eq-eqb _ _ (q .1 ∙ eqb-true _ _ (and-right (stampIsOf p (suc l)) (eqb (stampOf p .time .0) t) s))) in
+    ap (λ b. b || (stampIsOf p (suc l) && eqb (stampOf p .time .0) t)) kept ∙ sym kept)
+    (λ s. ap (λ b. hasProposal p (suc l) t || b) s ∙ or-false (hasProposal p (suc l) t))
 
 other-ledger : (p q : Payment) (l : ℕ)
-    → not (heardFrom p (suc l) && keeps q (suc l) (timeFrom p (suc l))) && not (stampFrom p (suc l) && keeps q (suc l) (stampOf p .time .0))
-    ≡ not (heardFrom p (suc l) && proposes q (suc l) (timeFrom p (suc l)))
+    → not (heardFrom p (suc l) && keeps q (suc l) (timeFrom p (suc l))) && not (stampIsOf p (suc l) && keeps q (suc l) (stampOf p .time .0))
+    ≡ not (heardFrom p (suc l) && hasProposal q (suc l) (timeFrom p (suc l)))
 other-ledger p q l =
-    split (stampFrom p (suc l))
+    split (stampIsOf p (suc l))
     (λ s. let r = stamp-proposed p l s in
     ap₂ (λ a b. not a && not b) first
     (ap₂ _&&_ (s ∙ sym (r .0)) (ap (keeps q (suc l)) (sym (r .1))) ∙ first)
-    ∙ twice (not (heardFrom p (suc l) && proposes q (suc l) (timeFrom p (suc l)))))
+    ∙ twice (not (heardFrom p (suc l) && hasProposal q (suc l) (timeFrom p (suc l)))))
     (λ s. ap₂ (λ a b. not a && not b) first (ap (λ b. b && keeps q (suc l) (stampOf p .time .0)) s) ∙ and-true _)
   where
-    first : heardFrom p (suc l) && keeps q (suc l) (timeFrom p (suc l)) ≡ heardFrom p (suc l) && proposes q (suc l) (timeFrom p (suc l))
+    first : heardFrom p (suc l) && keeps q (suc l) (timeFrom p (suc l)) ≡ heardFrom p (suc l) && hasProposal q (suc l) (timeFrom p (suc l))
     first = ap (λ b. heardFrom p (suc l) && b) (keeps-proposes q (suc l) (timeFrom p (suc l)))
 
     twice : (b : Bool) → b && b ≡ b
@@ -76,6 +76,6 @@ other-ledger p q l =
 
 -- two payments keep no time of one ledger together exactly when none was proposed to both
 pub otherTimes-proposed : (p q : Payment)
-    → otherTimes p q ≡ every 8 (λ k. not (heardFrom p (suc k) && proposes q (suc k) (timeFrom p (suc k))))
-unfolding otherTimes
+    → timesDiffer p q ≡ every 8 (λ k. not (heardFrom p (suc k) && hasProposal q (suc k) (timeFrom p (suc k))))
+unfolding timesDiffer
 otherTimes-proposed p q = every-same 8 _ _ (λ k h. other-ledger p q k)

@@ -10,7 +10,7 @@ unfoldable pub has : ℕ → ℕ → Bool
 has ledgers zero = false
 has ledgers (suc k) = bit ledgers k
 
--- the byte with ledger k among its ledgers
+-- the byte with ledger k, from 1 to 8, among its ledgers
 unfoldable pub with : ℕ → ℕ → ℕ
 with ledgers zero = ledgers
 with ledgers (suc k) = cond (bit ledgers k) ledgers (ledgers + 2 ^ k)

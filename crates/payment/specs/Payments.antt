@@ -1,4 +1,4 @@
--- Document 01, "What a ledger keeps": what is kept for each payment, and what soundness says of one payment and of two.
+-- Document 01, "What a ledger keeps": what is kept for each payment.
 -- Assumes nothing.
 use Prim.Native.Nat.{ℕ, zero, suc, _^_}
 use mathlib.Core.List.{List}
@@ -47,15 +47,15 @@ heardFrom p k = has (p .heard) k
 abbrev pub timeFrom : Payment → ℕ → ℕ
 timeFrom p k = timeIn (p .times) k .0
 
--- the stamp is the greatest proposal
+-- the greatest proposal heard: the stamp, once the payment is stamped (it is not stored beside the times, which then never change)
 abbrev pub stampOf : Payment → Stamp
 stampOf p = greatest (p .times) (p .heard) 8
 
--- every destination is heard (heard ones are destinations)
+-- every destination is heard: no more can be, since heard ones are destinations
 abbrev pub allHeard : Payment → Bool
 allHeard p = eqb (p .heard) (p .destinations)
 
--- phases: waiting, proposed, stamped, posted
+-- phases: waiting (0, as an unused place counts as waiting), proposed, stamped, posted
 abbrev pub waiting : ℕ
 waiting = 0
 
@@ -83,17 +83,17 @@ isPosted p = eqb (p .phase) posted
 abbrev pub hasStamp : Payment → Bool
 hasStamp p = isStamped p || isPosted p
 
--- the payment's stamp is of ledger k, a ledger being at least 1
-abbrev pub stampFrom : Payment → ℕ → Bool
-stampFrom p k = hasStamp p && (leb 1 k && eqb (stampOf p .ledger .0) k)
+-- the payment's stamp is of ledger k (0 is no ledger)
+abbrev pub stampIsOf : Payment → ℕ → Bool
+stampIsOf p k = hasStamp p && (leb 1 k && eqb (stampOf p .ledger .0) k)
 
 -- ledger k's time t is held for the payment as a proposal
-abbrev pub proposes : Payment → ℕ → ℕ → Bool
-proposes p k t = heardFrom p k && eqb (timeFrom p k) t
+abbrev pub hasProposal : Payment → ℕ → ℕ → Bool
+hasProposal p k t = heardFrom p k && eqb (timeFrom p k) t
 
--- ledger k's time t is held for the payment, as a proposal or in a stamp
+-- ledger k's time t is held for the payment, as a proposal or in a stamp (a stamp is always one of the proposals)
 abbrev pub keeps : Payment → ℕ → ℕ → Bool
-keeps p k t = proposes p k t || stampFrom p k && eqb (stampOf p .time .0) t
+keeps p k t = hasProposal p k t || (stampIsOf p k && eqb (stampOf p .time .0) t)
 
 -- the payment with ledger k's time kept
 unfoldable pub hear : Payment → ℕ → Time → Payment
@@ -109,7 +109,7 @@ hear p (suc k) t =
     })
     p
 
--- destinations empty, beyond N, or without this ledger
+-- 5: destinations empty, beyond N, or without this ledger
 unfoldable pub unlawful : ℕ → ℕ → ℕ → Bool
 unlawful group own destinations =
     eqb destinations 0 || (leb (2 ^ group) destinations || not (has destinations own))

@@ -4,13 +4,13 @@ use Prim.Native.Nat.{ℕ, suc}
 use mathlib.Core.Bool.{Bool, cond, not, _&&_}
 use lib.Dec.{eqb, ltb}
 use Rattle.common.specs.Places.{every}
-use Rattle.payment.specs.Payments.{allHeard, hasStamp, heardFrom, isProposed, isTime, isWaiting, keeps, stampFrom, stampOf, timeFrom, unlawful}
+use Rattle.payment.specs.Payments.{allHeard, hasStamp, heardFrom, isProposed, isTime, isWaiting, keeps, stampIsOf, stampOf, timeFrom, unlawful}
 use Rattle.payment.specs.Ledgers.{has}
 use Rattle.payment.specs.declared.Payment.{Payment}
 
 -- a non-zero number
-abbrev pub numbered : Payment → Bool
-numbered p = not (eqb (p .number .0) 0)
+abbrev pub numberNotZero : Payment → Bool
+numberNotZero p = not (eqb (p .number .0) 0)
 
 -- lawful destinations with this ledger
 abbrev pub lawful : ℕ → ℕ → Payment → Bool
@@ -25,30 +25,31 @@ unfoldable pub heardRight : Payment → Bool
 heardRight p = every 8 (λ k. timeRight p (suc k))
 
 -- own times and the times of stamps are not above the clock
-unfoldable pub notAbove : ℕ → ℕ → Payment → Bool
-notAbove own clock p =
+unfoldable pub notAboveClock : ℕ → ℕ → Payment → Bool
+notAboveClock own clock p =
     not (heardFrom p own && ltb clock (timeFrom p own)) && not (hasStamp p && ltb clock (stampOf p .time .0))
 
 -- waiting means own not heard and some other heard, proposed own heard and some other not, stamped or posted all heard
+-- (heard ones being destinations: some is heard, without own, is some other; not all, with own, is some other not)
 unfoldable pub phaseRight : ℕ → Payment → Bool
 phaseRight own p =
     cond (isWaiting p) (not (heardFrom p own) && not (eqb (p .heard) 0))
     (cond (isProposed p) (heardFrom p own && not (allHeard p)) (hasStamp p && allHeard p))
 
--- an unused place is all zero
+-- an unused place is all zero, and so counts as waiting
 unfoldable pub unused : Payment → Bool
 unused p =
     eqb (p .number .0) 0
     && (eqb (p .destinations) 0
-    && (eqb (p .heard) 0 && (eqb (p .phase) 0 && every 8 (λ k. eqb (timeFrom p (suc k)) 0))))
+    && (eqb (p .heard) 0 && (isWaiting p && every 8 (λ k. eqb (timeFrom p (suc k)) 0))))
 
 -- two payments have different numbers
-abbrev pub otherNumber : Payment → Payment → Bool
-otherNumber p q = not (eqb (p .number .0) (q .number .0))
+abbrev pub numbersDiffer : Payment → Payment → Bool
+numbersDiffer p q = not (eqb (p .number .0) (q .number .0))
 
 -- one ledger's times, in proposals and in stamps, differ between two payments
-unfoldable pub otherTimes : Payment → Payment → Bool
-otherTimes p q =
+unfoldable pub timesDiffer : Payment → Payment → Bool
+timesDiffer p q =
     every 8
     (λ k. not (heardFrom p (suc k) && keeps q (suc k) (timeFrom p (suc k)))
-    && not (stampFrom p (suc k) && keeps q (suc k) (stampOf p .time .0)))
+    && not (stampIsOf p (suc k) && keeps q (suc k) (stampOf p .time .0)))

@@ -6,7 +6,7 @@ use frame::PaymentNo;
 use frame::Time;
 ghost use mathlib.Core.Path.{_≡_};
 ghost use Rattle.payment.specs.Ledgers.{has, howMany, without};
-ghost use Rattle.payment.specs.Payments.{greatest, hear, proposes, stampOf, timeIn, unlawful};
+ghost use Rattle.payment.specs.Payments.{greatest, hear, hasProposal, stampOf, timeIn, unlawful};
 ghost use Rattle.payment.specs.Stamps.{below};
 
 // Phases.
@@ -26,10 +26,14 @@ pub struct Stamp {
     pub ledger: LedgerNo,
 }
 
+// What is kept for one payment.
 pub struct Payment {
     pub number: PaymentNo,
+    // Ledger k is the bit of value 2^(k-1).
     pub destinations: u8,
+    // The destinations whose time is kept, with the same bits.
     pub heard: u8,
+    // Ledger k's time stands at place k - 1; 0 where it was not heard.
     pub times: [Time; 8],
     pub phase: u8,
 }
@@ -162,7 +166,7 @@ impl Payment {
 
     // Whether a ledger's time is held for the payment as a proposal.
     pub fn has_proposal(self, ledger: LedgerNo, time: Time) -> bool
-        ensures { λ r. ⌜ r ≡ proposes self (ledger .0) (time .0) ⌝ }
+        ensures { λ r. ⌜ r ≡ hasProposal self (ledger .0) (time .0) ⌝ }
     {
         let times = self.times;
         if among(self.heard, ledger) {

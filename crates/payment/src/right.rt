@@ -10,8 +10,8 @@ use frame::Time;
 ghost use mathlib.Core.Path.{_≡_};
 ghost use mathlib.Core.Bool.{_&&_};
 ghost use lib.Dec.{ltb};
-ghost use Rattle.payment.specs.Payments.{hasStamp, heardFrom, proposes, timeFrom};
-ghost use Rattle.payment.specs.Right.{heardRight, notAbove, otherTimes, phaseRight, timeRight, unused};
+ghost use Rattle.payment.specs.Payments.{hasStamp, heardFrom, hasProposal, timeFrom};
+ghost use Rattle.payment.specs.Right.{heardRight, notAboveClock, timesDiffer, phaseRight, timeRight, unused};
 
 impl Payment {
     // Whether what is kept from one ledger is as it should be.
@@ -66,7 +66,7 @@ impl Payment {
 
     // Whether neither the own time nor the stamp's time is above the clock.
     pub fn not_above(self, own: LedgerNo, clock: Time) -> bool
-        ensures { λ r. ⌜ r ≡ notAbove (own .0) (clock .0) self ⌝ }
+        ensures { λ r. ⌜ r ≡ notAboveClock (own .0) (clock .0) self ⌝ }
     {
         if self.own_above(own, clock) {
             return false;
@@ -122,7 +122,7 @@ impl Payment {
 
     // Whether both payments keep the same time of one ledger.
     fn shares(self, other: Payment, ledger: LedgerNo) -> bool
-        ensures { λ r. ⌜ r ≡ heardFrom self (ledger .0) && proposes other (ledger .0) (timeFrom self (ledger .0)) ⌝ }
+        ensures { λ r. ⌜ r ≡ heardFrom self (ledger .0) && hasProposal other (ledger .0) (timeFrom self (ledger .0)) ⌝ }
     {
         let mine = self.times;
         if crate::among(self.heard, ledger) {
@@ -133,7 +133,7 @@ impl Payment {
 
     // Whether no ledger's time is kept for both payments.
     pub fn other_times(self, other: Payment) -> bool
-        ensures { λ r. ⌜ r ≡ otherTimes self other ⌝ }
+        ensures { λ r. ⌜ r ≡ timesDiffer self other ⌝ }
     {
         for k in 0..8u8 {
             if self.shares(other, LedgerNo(k + 1)) {

@@ -13,12 +13,12 @@ use Rattle.common.specs.Places.{every}
 use Rattle.common.proofs.PlaceLaws.{first-holds, first-missing}
 use Rattle.common.proofs.TestLaws.{and-both, and-go, and-left, both, or-left, or-right, split}
 use Rattle.payment.specs.Ledgers.{has}
-use Rattle.payment.specs.Payments.{hasStamp, heardFrom, isPosted, isProposed, isWaiting, proposes, stampOf, timeFrom, timeIn, unlawful}
-use Rattle.payment.specs.Right.{heardRight, notAbove, otherNumber, otherTimes, phaseRight, unused}
+use Rattle.payment.specs.Payments.{hasStamp, heardFrom, isPosted, isProposed, isWaiting, hasProposal, stampOf, timeFrom, timeIn, unlawful}
+use Rattle.payment.specs.Right.{heardRight, notAboveClock, numbersDiffer, timesDiffer, phaseRight, unused}
 use Rattle.payment.specs.declared.Payment.{Payment}
 use Rattle.held.specs.Held.{at, holds, isNumber, limit, placeOf}
 use Rattle.ledger.specs.State.{newPayment}
-use Rattle.ledger.specs.Refusals.{badSource, badTime, conflict, elsewhere, firstGiven, full, heldOne, isHeld, isPropose, judged, otherTime, repeat, spent}
+use Rattle.ledger.specs.Refusals.{badSource, badTime, conflict, otherDestinations, firstGiven, noRoom, heldOne, isHeld, isPropose, judged, anotherTime, repeat, clockAtEnd}
 use Rattle.ledger.specs.Step.{paymentFor, placeFor}
 use Rattle.ledger.specs.declared.Incoming.{Incoming}
 use Rattle.ledger.specs.declared.Ledger.{Ledger}
@@ -39,8 +39,8 @@ pub record Accepted (l : Ledger) (f : Incoming) : Type 0 where
   pub time : badTime f ≡ false
   pub conflict-free : conflict l f ≡ false
   pub no-repeat : repeat l f ≡ false
-  pub room : full l f ≡ false
-  pub not-spent : spent l f ≡ false
+  pub room : noRoom l f ≡ false
+  pub not-spent : clockAtEnd l f ≡ false
 
 pub accepted : (l : Ledger) (f : Incoming) → firstGiven (judged l f) ≡ 0 → Accepted l f
 unfolding allNumbered
@@ -117,24 +117,24 @@ module _ (l : Ledger) (s : Sound l) (i j : ℕ) (hi : i < limit) (hj : j < limit
   pub apart-pairs : Apart (at (l .payments) i) (at (l .payments) j)
   apart-pairs =
       split (ltb j i)
-      (λ t. apart-at (at (l .payments) i) (at (l .payments) j) (pairs-at (l .payments) (l .count) otherTimes (s .times) i j hi ui (ltb-true _ _ t)))
+      (λ t. apart-at (at (l .payments) i) (at (l .payments) j) (pairs-at (l .payments) (l .count) timesDiffer (s .times) i j hi ui (ltb-true _ _ t)))
       (λ t. let above = ltb-false j i t in
       apart-sym (at (l .payments) j) (at (l .payments) i)
-      (apart-at (at (l .payments) j) (at (l .payments) i) (pairs-at (l .payments) (l .count) otherTimes (s .times) j i hj uj (omega arith))))
+      (apart-at (at (l .payments) j) (at (l .payments) i) (pairs-at (l .payments) (l .count) timesDiffer (s .times) j i hj uj (omega arith))))
 
   pub apart-numbers : at (l .payments) i .number .0 ≡ at (l .payments) j .number .0 → ⊥
   apart-numbers e =
       split (ltb j i)
-      (λ t. both (pairs-at (l .payments) (l .count) otherNumber (s .numbers) i j hi ui (ltb-true _ _ t)) (ap not (eq-eqb _ _ e)))
+      (λ t. both (pairs-at (l .payments) (l .count) numbersDiffer (s .numbers) i j hi ui (ltb-true _ _ t)) (ap not (eq-eqb _ _ e)))
       (λ t. let above = ltb-false j i t in
-      both (pairs-at (l .payments) (l .count) otherNumber (s .numbers) j i hj uj (omega arith)) (ap not (eq-eqb _ _ (sym e))))
+      both (pairs-at (l .payments) (l .count) numbersDiffer (s .numbers) j i hj uj (omega arith)) (ap not (eq-eqb _ _ (sym e))))
 
 unused-number : (p : Payment) → unused p ≡ true → p .number .0 ≡ 0
 unfolding unused
 unused-number p e = eqb-true _ _ (and-left (eqb (p .number .0) 0) _ e)
 
-pub own-below : (p : Payment) (own clock : ℕ) → heardFrom p own ≡ true → notAbove own clock p ≡ true → timeFrom p own ≤ clock
-unfolding notAbove
+pub own-below : (p : Payment) (own clock : ℕ) → heardFrom p own ≡ true → notAboveClock own clock p ≡ true → timeFrom p own ≤ clock
+unfolding notAboveClock
 own-below p own clock h e =
     ltb-false _ _ (sym (and-go (ltb clock (timeFrom p own)) h) ∙ not-true _ (and-left (not (heardFrom p own && ltb clock (timeFrom p own))) _ e))
 
@@ -163,7 +163,7 @@ module _ (l : Ledger) (s : Sound l) (shape : Shaped l) (f : Incoming) (a : Accep
 
   same-destinations : heldOne l f .destinations ≡ f .destinations
   same-destinations =
-      eqb-true _ _ (not-false _ (sym (and-go (not (eqb (heldOne l f .destinations) (f .destinations))) n) ∙ or-left (elsewhere l f) _ (a .conflict-free)))
+      eqb-true _ _ (not-false _ (sym (and-go (not (eqb (heldOne l f .destinations) (f .destinations))) n) ∙ or-left (otherDestinations l f) _ (a .conflict-free)))
 
   -- nothing that is wanted of the source was heard
   source-unheard : isPropose f ≡ true → heardFrom (heldOne l f) (f .source .0) ≡ false
@@ -171,11 +171,11 @@ module _ (l : Ledger) (s : Sound l) (shape : Shaped l) (f : Incoming) (a : Accep
       split (heardFrom (heldOne l f) (f .source .0))
       (λ h. split (eqb (timeFrom (heldOne l f) (f .source .0)) (f .time .0))
       (λ t. both
-      (and-both n (ap (λ b. cond b (proposes (heldOne l f) (f .source .0) (f .time .0)) (not (isWaiting (heldOne l f)))) k ∙ and-both h t))
+      (and-both n (ap (λ b. cond b (hasProposal (heldOne l f) (f .source .0) (f .time .0)) (not (isWaiting (heldOne l f)))) k ∙ and-both h t))
       (a .no-repeat))
       (λ t. both
       (and-both n (and-both h (ap not t)))
-      (or-left (otherTime l f) _ (sym (and-go _ k) ∙ or-right (elsewhere l f) _ (a .conflict-free)))))
+      (or-left (anotherTime l f) _ (sym (and-go _ k) ∙ or-right (otherDestinations l f) _ (a .conflict-free)))))
       (λ h. h)
 
   -- it is waiting or proposed: a stamped or posted one has heard everybody
@@ -185,7 +185,7 @@ module _ (l : Ledger) (s : Sound l) (shape : Shaped l) (f : Incoming) (a : Accep
       (λ k. let all = eqb-true _ _ (sym (later-stamp (l .own .0) (heldOne l f) (eqb-false _ _ w) (eqb-false _ _ p) h) ∙ of-held (phaseRight (l .own .0)) (s .phase)) in
       let source = or-left (not (has (f .destinations) (f .source .0))) _ (or-right (ltb (l .group) (f .source .0)) _ (or-right (eqb (f .source .0) 0) _ (sym (and-go _ k) ∙ a .source))) in
       both (ap (λ x. has x (f .source .0)) (all ∙ same-destinations) ∙ not-false _ source) (source-unheard k))
-      (λ k. both (and-both n (ap (λ b. cond b (proposes (heldOne l f) (f .source .0) (f .time .0)) (not (isWaiting (heldOne l f)))) k ∙ ap not w)) (a .no-repeat))
+      (λ k. both (and-both n (ap (λ b. cond b (hasProposal (heldOne l f) (f .source .0) (f .time .0)) (not (isWaiting (heldOne l f)))) k ∙ ap not w)) (a .no-repeat))
 
   held-phase : ((heldOne l f .phase ≡ 0) × (heardFrom (heldOne l f) (l .own .0) ≡ false)) ⊎ ((heldOne l f .phase ≡ 1) × (heardFrom (heldOne l f) (l .own .0) ≡ true))
   held-phase =
@@ -207,7 +207,7 @@ module _ (l : Ledger) (s : Sound l) (shape : Shaped l) (f : Incoming) (a : Accep
       (λ h. both right (later-none (l .own .0) (heldOne l f) (eqb-false _ _ w) (eqb-false _ _ p) h))))
 
   held-own : heardFrom (heldOne l f) (l .own .0) ≡ true → timeFrom (heldOne l f) (l .own .0) ≤ l .clock .0
-  held-own h = own-below (heldOne l f) (l .own .0) (l .clock .0) h (of-held (notAbove (l .own .0) (l .clock .0)) (s .clock))
+  held-own h = own-below (heldOne l f) (l .own .0) (l .clock .0) h (of-held (notAboveClock (l .own .0) (l .clock .0)) (s .clock))
 
   held-other : (j : ℕ) → j < limit → j < l .count → (j ≡ placeOf (l .payments) (f .payment .0) → ⊥) → at (l .payments) j .number .0 ≡ f .payment .0 → ⊥
   held-other j h u o e = apart-numbers l s j (placeOf (l .payments) (f .payment .0)) h place-range u place-used o (e ∙ sym has-number)

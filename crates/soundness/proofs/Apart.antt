@@ -6,8 +6,8 @@ use mathlib.Core.Bool.{true, not, _&&_}
 use borrow.Author.Tests.{eq-eqb, eqb-true}
 use Rattle.common.proofs.PlaceLaws.{every-all, every-at}
 use Rattle.common.proofs.TestLaws.{and-both, and-left, and-right, both, split}
-use Rattle.payment.specs.Payments.{heardFrom, proposes, timeFrom}
-use Rattle.payment.specs.Right.{otherTimes}
+use Rattle.payment.specs.Payments.{heardFrom, hasProposal, timeFrom}
+use Rattle.payment.specs.Right.{timesDiffer}
 use Rattle.payment.specs.declared.Payment.{Payment}
 use Rattle.payment.proofs.KeptLaws.{otherTimes-proposed}
 
@@ -15,16 +15,16 @@ use Rattle.payment.proofs.KeptLaws.{otherTimes-proposed}
 abbrev pub Apart : Payment → Payment → Type 0
 Apart p q = (k : ℕ) → k < 8 → heardFrom p (suc k) ≡ true → heardFrom q (suc k) ≡ true → timeFrom p (suc k) ≡ timeFrom q (suc k) → ⊥
 
-pub apart-at : (p q : Payment) → otherTimes p q ≡ true → Apart p q
+pub apart-at : (p q : Payment) → timesDiffer p q ≡ true → Apart p q
 apart-at p q e k h a b t =
-    let shared = every-at 8 (λ k. not (heardFrom p (suc k) && proposes q (suc k) (timeFrom p (suc k)))) (sym (otherTimes-proposed p q) ∙ e) k h in
+    let shared = every-at 8 (λ k. not (heardFrom p (suc k) && hasProposal q (suc k) (timeFrom p (suc k)))) (sym (otherTimes-proposed p q) ∙ e) k h in
     both shared (ap not (and-both a (and-both b (eq-eqb _ _ (sym t)))))
 
-pub apart-so : (p q : Payment) → Apart p q → otherTimes p q ≡ true
+pub apart-so : (p q : Payment) → Apart p q → timesDiffer p q ≡ true
 apart-so p q f =
     otherTimes-proposed p q
-    ∙ every-all 8 (λ k. not (heardFrom p (suc k) && proposes q (suc k) (timeFrom p (suc k))))
-    (λ k h. split (heardFrom p (suc k) && proposes q (suc k) (timeFrom p (suc k)))
+    ∙ every-all 8 (λ k. not (heardFrom p (suc k) && hasProposal q (suc k) (timeFrom p (suc k))))
+    (λ k h. split (heardFrom p (suc k) && hasProposal q (suc k) (timeFrom p (suc k)))
     (λ t. let r = and-right (heardFrom p (suc k)) _ t in
     absurd (f k h (and-left (heardFrom p (suc k)) _ t) (and-left (heardFrom q (suc k)) _ r)
     (sym (eqb-true _ _ (and-right (heardFrom q (suc k)) _ r)))))

@@ -12,16 +12,16 @@ use Rattle.common.proofs.PlaceLaws.{any-none}
 use Rattle.common.proofs.TestLaws.{and-both, and-go, and-left, and-right, both, or-go, or-left, or-right, split}
 use Rattle.payment.specs.Ledgers.{has}
 use Rattle.payment.specs.Payments.{hasStamp, hear, heardFrom, isPosted, isStamped, keeps, lastTime, proposed, stampOf, timeFrom}
-use Rattle.payment.specs.Right.{notAbove}
+use Rattle.payment.specs.Right.{notAboveClock}
 use Rattle.payment.specs.declared.Payment.{Payment}
 use Rattle.payment.proofs.HearLaws.{Hears, hear-phase, hears}
 use Rattle.payment.proofs.KeptLaws.{keeps-proposes}
 use Rattle.payment.proofs.LedgerLaws.{place}
 use Rattle.held.specs.Held.{at, isNumber, limit}
 use Rattle.held.proofs.ReflectLaws.{each-at}
-use Rattle.ledger.specs.State.{isGroup}
-use Rattle.ledger.specs.Refusals.{elsewhere, isPropose, otherTime}
-use Rattle.ledger.specs.Step.{inPhase, ownTime, paymentFor, placeFor}
+use Rattle.ledger.specs.State.{lawfulSetUp}
+use Rattle.ledger.specs.Refusals.{otherDestinations, isPropose, anotherTime}
+use Rattle.ledger.specs.Step.{inPhase, newOwnTime, paymentFor, placeFor}
 use Rattle.ledger.specs.declared.Incoming.{Incoming}
 use Rattle.ledger.specs.declared.Ledger.{Ledger}
 use Rattle.ledger.proofs.JudgeLaws.{clock-range}
@@ -30,15 +30,15 @@ use Rattle.soundness.proofs.Accepted.{Accepted, Base, own-below}
 use Rattle.soundness.proofs.Replacing.{almost, posted-held}
 use Rattle.soundness.proofs.Taking.{Brings, own-among}
 
-stamp-below : (p : Payment) (own clock : ℕ) → hasStamp p ≡ true → notAbove own clock p ≡ true → stampOf p .time .0 ≤ clock
-unfolding notAbove
+stamp-below : (p : Payment) (own clock : ℕ) → hasStamp p ≡ true → notAboveClock own clock p ≡ true → stampOf p .time .0 ≤ clock
+unfolding notAboveClock
 stamp-below p own clock h e =
     ltb-false _ _ (sym (and-go (ltb clock (stampOf p .time .0)) h) ∙ not-true _ (and-right (not (heardFrom p own && ltb clock (timeFrom p own))) _ e))
 
 -- the ranges of a sound ledger
 module _ (l : Ledger) (s : Sound l) where
-  group-is : isGroup (l .group) (l .own .0) ≡ true
-  group-is = and-left (isGroup (l .group) (l .own .0)) _ (s .range)
+  group-is : lawfulSetUp (l .group) (l .own .0) ≡ true
+  group-is = and-left (lawfulSetUp (l .group) (l .own .0)) _ (s .range)
 
   pub group-range : l .group ≤ 8
   group-range = leb-true _ _ (and-left (leb (l .group) 8) _ (and-right (leb 1 (l .group)) _ group-is))
@@ -55,15 +55,15 @@ module _ (l : Ledger) (s : Sound l) where
   posted-time j h p =
       stamp-below (at (l .payments) j) (l .own .0) (l .clock .0)
       (split (isStamped (at (l .payments) j)) (λ t. ap (λ b. b || isPosted (at (l .payments) j)) t) (λ t. or-go _ t ∙ p))
-      (each-at (l .payments) (l .count) (notAbove (l .own .0) (l .clock .0)) (s .clock) j h (posted-held l (almost l s) j h p))
+      (each-at (l .payments) (l .count) (notAboveClock (l .own .0) (l .clock .0)) (s .clock) j h (posted-held l (almost l s) j h p))
 
 module _ (l : Ledger) (f : Incoming) (s : Sound l) (a : Accepted l f) (b : Base l f) where
   abbrev pub multicasted : Payment
-  multicasted = inPhase proposed (hear (paymentFor l f) (l .own .0) (ownTime l))
+  multicasted = inPhase proposed (hear (paymentFor l f) (l .own .0) (newOwnTime l))
 
   multicast-heard : Hears (paymentFor l f) multicasted (l .own .0) (l .clock .0 + 1)
   multicast-heard =
-      let v = hears (paymentFor l f) (l .own .0) (ownTime l) (own-range l s .0) (own-range l s .1) (b .byte) (b .size) in
+      let v = hears (paymentFor l f) (l .own .0) (newOwnTime l) (own-range l s .0) (own-range l s .1) (b .byte) (b .size) in
       record {
         number = v .number;
         destinations = v .destinations;
@@ -90,7 +90,7 @@ module _ (l : Ledger) (f : Incoming) (s : Sound l) (a : Accepted l f) (b : Base 
         destination = own-among (l .group) (l .own .0) (f .destinations) (a .destinations);
         time = and-both (le-leb 1 (l .clock .0 + 1) (omega arith)) (le-leb (l .clock .0 + 1) lastTime (omega arith));
         fresh = λ j h u o e t.
-            let late = own-below (at (l .payments) j) (l .own .0) (l .clock .0) e (each-at (l .payments) (l .count) (notAbove (l .own .0) (l .clock .0)) (s .clock) j h u) in
+            let late = own-below (at (l .payments) j) (l .own .0) (l .clock .0) e (each-at (l .payments) (l .count) (notAboveClock (l .own .0) (l .clock .0)) (s .clock) j h u) in
             omega (arith, late, t);
         so-far = inr (refl, multicast-heard .heard);
         own-time = λ e. subst (λ n. n ≤ l .clock .0 + 1) (sym (multicast-heard .time)) (le-refl _);
@@ -138,7 +138,7 @@ module _ (l : Ledger) (f : Incoming) (s : Sound l) (a : Accepted l f) (b : Base 
   fresh-propose : isPropose f ≡ true → (j : ℕ) → j < limit → j < l .count → (j ≡ placeFor l f → ⊥)
       → heardFrom (at (l .payments) j) (f .source .0) ≡ true → timeFrom (at (l .payments) j) (f .source .0) ≡ f .time .0 → ⊥
   fresh-propose k j h u o e t =
-      let none = or-right (otherTime l f) _ (sym (and-go _ k) ∙ or-right (elsewhere l f) _ (a .conflict-free)) in
+      let none = or-right (anotherTime l f) _ (sym (and-go _ k) ∙ or-right (otherDestinations l f) _ (a .conflict-free)) in
       let at-j = any-none limit (λ i. not (isNumber (l .payments) (f .payment .0) i) && keeps (at (l .payments) i) (f .source .0) (f .time .0)) none j h in
       let free = sym (and-go (keeps (at (l .payments) j) (f .source .0) (f .time .0)) (ap not (ne-eqb _ _ (b .other j h u o)))) ∙ at-j in
       both (and-both e (eq-eqb _ _ t)) (sym (keeps-proposes (at (l .payments) j) (f .source .0) (f .time .0)) ∙ free)

@@ -1,30 +1,26 @@
 -- The fresh state is sound; the all-zero state, which a refused set-up hands back, is not.
 -- Assumes nothing.
-use Prim.Native.Nat.{ℕ, zero, suc, _<_, _≤_}
+use Prim.Native.Nat.{ℕ, _<_}
 use mathlib.Core.Path.{_≡_, refl, ap, sym, _∙_, subst}
-use mathlib.Core.Bool.{Bool, true, false, _&&_}
+use mathlib.Core.Bool.{Bool, true, false}
 use native.Mathlib.Nat.{not-suc-le-zero}
 use native.Mathlib.Omega.{arith}
-use lib.Dec.{leb}
-use lib.ListN.{getD-replicate, length, length-replicate, replicate}
-use borrow.Author.Tests.{ne-eqb}
+use lib.ListN.{getD-replicate, length, length-replicate}
 use Rattle.common.specs.Places.{every}
 use Rattle.common.proofs.TestLaws.{and-both, both, split}
-use Rattle.payment.specs.Ledgers.{has}
 use Rattle.payment.specs.Payments.{isPosted, timeIn}
-use Rattle.payment.specs.Right.{heardRight, lawful, notAbove, numbered, otherNumber, otherTimes, phaseRight, unused}
+use Rattle.payment.specs.Right.{heardRight, lawful, notAboveClock, numberNotZero, numbersDiffer, timesDiffer, phaseRight, unused}
 use Rattle.payment.specs.declared.Payment.{Payment}
 use Rattle.held.specs.Held.{at, limit, noPayment}
 use Rattle.held.proofs.FreeLaws.{free-other}
 use Rattle.held.proofs.ReflectLaws.{each-so, none-so, pairs-so, posted-so, unused-so}
-use Rattle.ledger.specs.State.{empty, isGroup, setUp, unusedPlace}
+use Rattle.ledger.specs.State.{fresh, lawfulSetUp, unusedPlace}
 use Rattle.ledger.specs.Sound.{each, pairs, sound}
-use Rattle.ledger.specs.declared.Ledger.{Ledger}
 use Rattle.ledger.proofs.SoundLaws.{clauses, sound-so}
 use Rattle.soundness.specs.Shaped.{Shaped}
 
 module _ (group own : ℕ) where
-  at-empty : (i : ℕ) → i < limit → at (empty group own .payments) i ≡ unusedPlace
+  at-empty : (i : ℕ) → i < limit → at (fresh group own .payments) i ≡ unusedPlace
   at-empty i h = getD-replicate limit i unusedPlace noPayment h
 
   all-zero : unused unusedPlace ≡ true
@@ -32,30 +28,30 @@ module _ (group own : ℕ) where
   all-zero = refl
 
   -- of no held payment anything may be said
-  no-payment : (f : Payment → Bool) → each (empty group own) f ≡ true
-  no-payment f = each-so (empty group own .payments) 0 f (λ i h u. absurd (not-suc-le-zero u))
+  no-payment : (f : Payment → Bool) → each (fresh group own) f ≡ true
+  no-payment f = each-so (fresh group own .payments) 0 f (λ i h u. absurd (not-suc-le-zero u))
 
-  no-pair : (f : Payment → Payment → Bool) → pairs (empty group own) f ≡ true
-  no-pair f = pairs-so (empty group own .payments) 0 f (λ i j h u l. absurd (not-suc-le-zero u))
+  no-pair : (f : Payment → Payment → Bool) → pairs (fresh group own) f ≡ true
+  no-pair f = pairs-so (fresh group own .payments) 0 f (λ i j h u l. absurd (not-suc-le-zero u))
 
-  pub fresh-sound : isGroup group own ≡ true → sound (empty group own) ≡ true
+  pub fresh-sound : lawfulSetUp group own ≡ true → sound (fresh group own) ≡ true
   fresh-sound g =
-      sound-so (empty group own) record {
+      sound-so (fresh group own) record {
         range = and-both g refl;
-        numbers = no-pair otherNumber;
-        number = no-payment numbered;
+        numbers = no-pair numbersDiffer;
+        number = no-payment numberNotZero;
         destinations = no-payment (lawful group own);
         heard = no-payment heardRight;
-        unused = unused-so (empty group own .payments) 0 (λ i h u. ap unused (at-empty i h) ∙ all-zero);
-        times = no-pair otherTimes;
-        clock = no-payment (notAbove own 0);
+        unused = unused-so (fresh group own .payments) 0 (λ i h u. ap unused (at-empty i h) ∙ all-zero);
+        times = no-pair timesDiffer;
+        clock = no-payment (notAboveClock own 0);
         phase = no-payment (phaseRight own);
-        free = none-so (empty group own .payments) own
-          (λ i h. free-other (empty group own .payments) own i (λ e. let z = ap (λ p. p .phase) (at-empty i h) in omega (arith, z, e)));
-        posted = posted-so (empty group own .payments) own (λ i j h k p. both p (ap isPosted (at-empty i h)));
+        free = none-so (fresh group own .payments) own
+            (λ i h. free-other (fresh group own .payments) own i (λ e. let z = ap (λ p. p .phase) (at-empty i h) in omega (arith, z, e)));
+        posted = posted-so (fresh group own .payments) own (λ i j h k p. both p (ap isPosted (at-empty i h)));
       }
 
-  pub fresh-shaped : Shaped (empty group own)
+  pub fresh-shaped : Shaped (fresh group own)
   fresh-shaped =
       record {
         places = length-replicate limit unusedPlace;
@@ -64,5 +60,5 @@ module _ (group own : ℕ) where
       }
 
 -- the all-zero state has no group
-pub nothing-unsound : sound (empty 0 0) ≡ false
-nothing-unsound = split (sound (empty 0 0)) (λ t. both (clauses (empty 0 0) t .range) refl) (λ t. t)
+pub nothing-unsound : sound (fresh 0 0) ≡ false
+nothing-unsound = split (sound (fresh 0 0)) (λ t. both (clauses (fresh 0 0) t .range) refl) (λ t. t)

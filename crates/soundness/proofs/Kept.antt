@@ -15,10 +15,9 @@ use Rattle.payment.specs.Payments.{allHeard, hear, stampOf}
 use Rattle.payment.specs.declared.Payment.{Payment}
 use Rattle.held.specs.Held.{at, limit, noPayment, placeOf}
 use Rattle.held.specs.Posting.{afterPosting, isFree, nowPosted}
-use Rattle.held.proofs.PostLaws.{posting-long}
 use Rattle.ledger.specs.Sound.{sound}
 use Rattle.ledger.specs.Refusals.{firstGiven, isHeld, isPropose, judged}
-use Rattle.ledger.specs.Step.{countFor, heardOf, inPhase, multicastRule, ownTime, paymentFor, placeFor, proposeRule, received, settling, stampRule, taken}
+use Rattle.ledger.specs.Step.{countFor, afterStamping, inPhase, multicastRule, newOwnTime, paymentFor, placeFor, proposeRule, afterHearing, postRule, stampRule, taken}
 use Rattle.ledger.specs.declared.Incoming.{Incoming}
 use Rattle.ledger.specs.declared.Ledger.{Ledger}
 use Rattle.ledger.proofs.JudgeLaws.{count-range, place-range}
@@ -33,19 +32,19 @@ use Rattle.soundness.proofs.Taking.{Brings, fits-open, fits-stamped}
 
 -- what the frame's payment becomes by rules 1 and 2, and the clock beside it
 abbrev pub heardPayment : Ledger → Incoming → Payment
-heardPayment l f = cond (isPropose f) (hear (paymentFor l f) (f .source .0) (f .time)) (inPhase 1 (hear (paymentFor l f) (l .own .0) (ownTime l)))
+heardPayment l f = cond (isPropose f) (hear (paymentFor l f) (f .source .0) (f .time)) (inPhase 1 (hear (paymentFor l f) (l .own .0) (newOwnTime l)))
 
 abbrev pub heardClock : Ledger → Incoming → ℕ
 heardClock l f = cond (isPropose f) (l .clock .0) (l .clock .0 + 1)
 
-received-form : (l : Ledger) (f : Incoming) → received l f ≡ with-payment l (countFor l f) (record { 0 = heardClock l f }) (placeFor l f) (heardPayment l f)
+received-form : (l : Ledger) (f : Incoming) → afterHearing l f ≡ with-payment l (countFor l f) (record { 0 = heardClock l f }) (placeFor l f) (heardPayment l f)
 unfolding multicastRule proposeRule
 received-form l f = go (isPropose f)
   where
     go : (b : Bool)
         → cond b (proposeRule l f) (multicastRule l f)
         ≡ with-payment l (countFor l f) (record { 0 = cond b (l .clock .0) (l .clock .0 + 1) }) (placeFor l f)
-        (cond b (hear (paymentFor l f) (f .source .0) (f .time)) (inPhase 1 (hear (paymentFor l f) (l .own .0) (ownTime l))))
+        (cond b (hear (paymentFor l f) (f .source .0) (f .time)) (inPhase 1 (hear (paymentFor l f) (l .own .0) (newOwnTime l))))
     go true = refl
     go false = refl
 
@@ -58,7 +57,7 @@ module _ (l : Ledger) (f : Incoming) (inside : placeFor l f < length (l .payment
   at-place = getD-set-same (l .payments) (placeFor l f) (heardPayment l f) noPayment inside
 
   pub heardOf-stamped : allHeard (heardPayment l f) ≡ true
-      → heardOf l f ≡ with-payment l (countFor l f) (record { 0 = max (heardClock l f) (stampOf (heardPayment l f) .time .0) }) (placeFor l f) (inPhase 2 (heardPayment l f))
+      → afterStamping l f ≡ with-payment l (countFor l f) (record { 0 = max (heardClock l f) (stampOf (heardPayment l f) .time .0) }) (placeFor l f) (inPhase 2 (heardPayment l f))
   heardOf-stamped e =
       ap (λ m. stampRule m (placeFor l f)) (received-form l f)
       ∙ stamp-now received-ledger (placeFor l f) (ap (λ p. p .heard) at-place ∙ eqb-true _ _ e ∙ sym (ap (λ p. p .destinations) at-place))
@@ -77,7 +76,7 @@ module _ (l : Ledger) (f : Incoming) (inside : placeFor l f < length (l .payment
         payments = ps;
       }) (set-set (l .payments) (placeFor l f) (heardPayment l f) (inPhase 2 (heardPayment l f)))
 
-  pub heardOf-open : allHeard (heardPayment l f) ≡ false → heardOf l f ≡ received-ledger
+  pub heardOf-open : allHeard (heardPayment l f) ≡ false → afterStamping l f ≡ received-ledger
   heardOf-open e =
       ap (λ m. stampRule m (placeFor l f)) (received-form l f)
       ∙ stamp-not received-ledger (placeFor l f) (λ z. eqb-false _ _ e (sym (ap (λ p. p .heard) at-place) ∙ z ∙ ap (λ p. p .destinations) at-place))
@@ -146,16 +145,16 @@ module _ (l : Ledger) (f : Incoming) (is-sound : sound l ≡ true) (shape : Shap
   brings A g =
       split (isPropose f)
       (λ k. g (f .source .0) (f .time .0) (paymentFor l f .phase)
-      (subst (λ c. Brings l f (f .source .0) (f .time .0) (paymentFor l f .phase) (cond c (l .clock .0) (l .clock .0 + 1)) (cond c (hear (paymentFor l f) (f .source .0) (f .time)) (inPhase 1 (hear (paymentFor l f) (l .own .0) (ownTime l)))))
+      (subst (λ c. Brings l f (f .source .0) (f .time .0) (paymentFor l f .phase) (cond c (l .clock .0) (l .clock .0 + 1)) (cond c (hear (paymentFor l f) (f .source .0) (f .time)) (inPhase 1 (hear (paymentFor l f) (l .own .0) (newOwnTime l)))))
       (sym k) (brings-propose l f s a b k)))
       (λ k. g (l .own .0) (l .clock .0 + 1) 1
-      (subst (λ c. Brings l f (l .own .0) (l .clock .0 + 1) 1 (cond c (l .clock .0) (l .clock .0 + 1)) (cond c (hear (paymentFor l f) (f .source .0) (f .time)) (inPhase 1 (hear (paymentFor l f) (l .own .0) (ownTime l)))))
+      (subst (λ c. Brings l f (l .own .0) (l .clock .0 + 1) 1 (cond c (l .clock .0) (l .clock .0 + 1)) (cond c (hear (paymentFor l f) (f .source .0) (f .time)) (inPhase 1 (hear (paymentFor l f) (l .own .0) (newOwnTime l)))))
       (sym k) (brings-multicast l f s a b k)))
 
   few : countFor l f ≤ limit
   few = count-few l f (count-range l is-sound) within
 
-  pub heard-almost : Almost (heardOf l f)
+  pub heard-almost : Almost (afterStamping l f)
   heard-almost =
       split (allHeard (heardPayment l f))
       (λ t. subst Almost (sym (heardOf-stamped l f inside t))
@@ -165,7 +164,7 @@ module _ (l : Ledger) (f : Incoming) (is-sound : sound l ≡ true) (shape : Shap
       (brings _ (λ w u phase n. replaced l (countFor l f) _ (placeFor l f) (heardPayment l f) (almost l s)
       (fits-open l f s shape a b within (own-range l s) few w u phase (heardClock l f) (heardPayment l f) n t))))
 
-  pub heard-shaped : Shaped (heardOf l f)
+  pub heard-shaped : Shaped (afterStamping l f)
   heard-shaped =
       split (allHeard (heardPayment l f))
       (λ t. subst Shaped (sym (heardOf-stamped l f inside t))
@@ -173,14 +172,12 @@ module _ (l : Ledger) (f : Incoming) (is-sound : sound l ≡ true) (shape : Shap
       (λ t. subst Shaped (sym (heardOf-open l f inside t))
       (brings _ (λ w u phase n. shaped-with l (countFor l f) _ (placeFor l f) (heardPayment l f) shape within (n .heard .size) (n .heard .byte))))
 
-  pub taken-state : (outgoing list : List ℕ) → limit ≤ length list → taken l f outgoing list .state ≡ posted-ledger (heardOf l f)
-  unfolding settling
-  taken-state outgoing list h =
-      ap (λ p. record { group = heardOf l f .group; own = heardOf l f .own; clock = heardOf l f .clock; count = heardOf l f .count; payments = p .payments })
-      (posting-long (heardOf l f .payments) (heardOf l f .own .0) list h)
+  pub taken-state : (outgoing list : List ℕ) → taken l f outgoing list .state ≡ posted-ledger (afterStamping l f)
+  unfolding postRule
+  taken-state outgoing list = refl
 
-  pub taken-sound : (outgoing list : List ℕ) → limit ≤ length list → sound (taken l f outgoing list .state) ≡ true
-  taken-sound outgoing list h = ap sound (taken-state outgoing list h) ∙ sound-so (posted-ledger (heardOf l f)) (settles (heardOf l f) heard-almost)
+  pub taken-sound : (outgoing list : List ℕ) → sound (taken l f outgoing list .state) ≡ true
+  taken-sound outgoing list = ap sound (taken-state outgoing list) ∙ sound-so (posted-ledger (afterStamping l f)) (settles (afterStamping l f) heard-almost)
 
-  pub taken-shaped : (outgoing list : List ℕ) → limit ≤ length list → Shaped (taken l f outgoing list .state)
-  taken-shaped outgoing list h = subst Shaped (sym (taken-state outgoing list h)) (shaped-posted (heardOf l f) heard-shaped)
+  pub taken-shaped : (outgoing list : List ℕ) → Shaped (taken l f outgoing list .state)
+  taken-shaped outgoing list = subst Shaped (sym (taken-state outgoing list)) (shaped-posted (afterStamping l f) heard-shaped)

@@ -1,21 +1,19 @@
 -- What is posted: exactly the payments that were free, each once, strictly rising by stamp.
 -- Assumes nothing.
-use Prim.Native.Nat.{ℕ, zero, suc, _+_, _*_, _-_, _<_, _≤_}
-use mathlib.Core.Path.{_≡_, refl, ap, ap₂, sym, _∙_, subst}
+use Prim.Native.Nat.{ℕ, suc, _+_, _*_, _-_, _<_, _≤_}
+use mathlib.Core.Path.{_≡_, ap, sym, _∙_, subst}
 use mathlib.Core.List.{List}
-use mathlib.Core.Bool.{Bool, true, false, not, cond, _&&_}
+use mathlib.Core.Bool.{true, false, _||_}
 use native.Mathlib.Nat.{lt-trans}
 use native.Mathlib.Omega.{arith}
 use lib.Dec.{eqb, ltb}
 use borrow.Author.Tests.{eq-eqb, eqb-false, eqb-true, lt-ltb, ltb-false, ltb-true, not-true}
-use Rattle.common.proofs.TestLaws.{and-right, both, split}
-use Rattle.frame.specs.declared.Time.{Time}
+use Rattle.common.proofs.TestLaws.{split}
 use Rattle.payment.specs.Ledgers.{has}
-use Rattle.payment.specs.Payments.{allHeard, greatest, heardFrom, isStamped, proposal, stampOf, timeFrom, unlawful}
-use Rattle.payment.specs.Right.{lawful, otherTimes, phaseRight}
+use Rattle.payment.specs.Payments.{heardFrom, isPosted, stampOf, timeFrom}
+use Rattle.payment.specs.Right.{lawful, timesDiffer, phaseRight}
 use Rattle.payment.specs.Stamps.{below}
 use Rattle.payment.specs.declared.Payment.{Payment}
-use Rattle.payment.specs.declared.Stamp.{Stamp}
 use Rattle.payment.proofs.GreatestLaws.{greatest-above, greatest-ledger, greatest-none}
 use Rattle.payment.proofs.KeptLaws.{greatest-proposed}
 use Rattle.payment.proofs.LedgerLaws.{place}
@@ -42,15 +40,21 @@ below-stamps p q =
     let hq = stamp-small q in
     below-rank (stampOf p) (stampOf q) (omega arith) (omega arith)
 
+pub below-trans : (p q r : Payment) → below (stampOf p) (stampOf q) ≡ true → below (stampOf q) (stampOf r) ≡ true → below (stampOf p) (stampOf r) ≡ true
+below-trans p q r a b =
+    let first : rank (stampOf p) < rank (stampOf q) = ltb-true _ _ (sym (below-stamps p q) ∙ a) in
+    let second : rank (stampOf q) < rank (stampOf r) = ltb-true _ _ (sym (below-stamps q r) ∙ b) in
+    below-stamps p r ∙ lt-ltb (rank (stampOf p)) (rank (stampOf r)) (lt-trans first second)
+
 -- a payment that this ledger was heard for has a stamp of one of the eight ledgers
 stamp-some : (p : Payment) (own : ℕ) → 1 ≤ own → own ≤ 8 → heardFrom p own ≡ true → 1 ≤ stampOf p .ledger .0
 stamp-some p own h g e =
     let is : own ≡ suc (own - 1) = place own (λ z. omega arith) in
-    let top : rank (proposal (p .times) (suc (own - 1))) ≤ rank (stampOf p) =
-      greatest-above (p .times) (p .heard) 8 (omega arith) (own - 1) (omega arith) (subst (λ n. heardFrom p n ≡ true) is e) in
+    let top : timeFrom p (suc (own - 1)) * 256 + suc (own - 1) ≤ stampOf p .time .0 * 256 + stampOf p .ledger .0 =
+    greatest-above (p .times) (p .heard) 8 (omega arith) (own - 1) (omega arith) (subst (λ n. heardFrom p n ≡ true) is e) in
     split (eqb (stampOf p .ledger .0) 0)
-    (λ t. let none : rank (stampOf p) ≡ 0 = greatest-none (p .times) (p .heard) 8 (eqb-true _ _ t) in absurd (omega arith))
-    (λ t. let some = eqb-false _ _ t in omega arith)
+    (λ t. let none : stampOf p .time .0 * 256 + stampOf p .ledger .0 ≡ 0 = greatest-none (p .times) (p .heard) 8 (eqb-true _ _ t) in absurd (omega arith))
+    (λ t. let some : stampOf p .ledger .0 ≡ 0 → ⊥ = eqb-false _ _ t in omega arith)
 
 -- two payments that keep no time of one ledger together have different stamps
 pub stamps-differ : (p q : Payment) (own : ℕ) → 1 ≤ own → own ≤ 8 → heardFrom p own ≡ true → heardFrom q own ≡ true → Apart p q
@@ -74,25 +78,25 @@ module _ (l : Ledger) (s : Almost l) (range : (1 ≤ l .own .0) × (l .own .0 �
   stamped-held i h p =
       split (ltb i (l .count)) (λ t. ltb-true _ _ t)
       (λ t. let none : at (l .payments) i .phase ≡ 0 = unused-phase (at (l .payments) i) (unused-at (l .payments) (l .count) (s .unused) i h (ltb-false _ _ t)) in
-        absurd (omega (arith, none, p)))
+      absurd (omega (arith, none, p)))
 
   stamped-own : (i : ℕ) → i < limit → at (l .payments) i .phase ≡ 2 → heardFrom (at (l .payments) i) (l .own .0) ≡ true
   stamped-own i h p =
       let u = stamped-held i h p in
       let all = eqb-true _ _
-        (sym (later-stamp (l .own .0) (at (l .payments) i) (λ z. omega (arith, p, z)) (λ z. omega (arith, p, z)) (ap (λ b. b || _) (eq-eqb _ _ p)))
-        ∙ each-at (l .payments) (l .count) (phaseRight (l .own .0)) (s .phase) i h u) in
+      (sym (later-stamp (l .own .0) (at (l .payments) i) (λ z. omega (arith, p, z)) (λ z. omega (arith, p, z)) (ap (λ b. b || isPosted (at (l .payments) i)) (eq-eqb _ _ p)))
+      ∙ each-at (l .payments) (l .count) (phaseRight (l .own .0)) (s .phase) i h u) in
       ap (λ d. has d (l .own .0)) all
       ∙ own-among (l .group) (l .own .0) (at (l .payments) i .destinations)
-          (not-true _ (each-at (l .payments) (l .count) (lawful (l .group) (l .own .0)) (s .destinations) i h u))
+      (not-true _ (each-at (l .payments) (l .count) (lawful (l .group) (l .own .0)) (s .destinations) i h u))
 
   apart-held : (i j : ℕ) → i < limit → j < limit → i < l .count → j < l .count → (i ≡ j → ⊥) → Apart (at (l .payments) i) (at (l .payments) j)
   apart-held i j hi hj ui uj o =
       split (ltb j i)
-      (λ t. apart-at (at (l .payments) i) (at (l .payments) j) (pairs-at (l .payments) (l .count) otherTimes (s .times) i j hi ui (ltb-true _ _ t)))
+      (λ t. apart-at (at (l .payments) i) (at (l .payments) j) (pairs-at (l .payments) (l .count) timesDiffer (s .times) i j hi ui (ltb-true _ _ t)))
       (λ t. let above = ltb-false j i t in
-        apart-sym (at (l .payments) j) (at (l .payments) i)
-        (apart-at (at (l .payments) j) (at (l .payments) i) (pairs-at (l .payments) (l .count) otherTimes (s .times) j i hj uj (omega arith))))
+      apart-sym (at (l .payments) j) (at (l .payments) i)
+      (apart-at (at (l .payments) j) (at (l .payments) i) (pairs-at (l .payments) (l .count) timesDiffer (s .times) j i hj uj (omega arith))))
 
   -- two stamped payments are in an order
   pub free-ordered : (i j : ℕ) → i < limit → j < limit → isFree (l .payments) (l .own .0) i ≡ true → isFree (l .payments) (l .own .0) j ≡ true
@@ -101,10 +105,10 @@ module _ (l : Ledger) (s : Almost l) (range : (1 ≤ l .own .0) × (l .own .0 �
       let pi = free-stamped (l .payments) (l .own .0) i fi in
       let pj = free-stamped (l .payments) (l .own .0) j fj in
       let up : rank (stampOf (at (l .payments) j)) ≤ rank (stampOf (at (l .payments) i)) =
-        ltb-false _ _ (sym (below-stamps (at (l .payments) i) (at (l .payments) j)) ∙ b) in
+      ltb-false _ _ (sym (below-stamps (at (l .payments) i) (at (l .payments) j)) ∙ b) in
       let differ : rank (stampOf (at (l .payments) i)) ≡ rank (stampOf (at (l .payments) j)) → ⊥ =
-        stamps-differ (at (l .payments) i) (at (l .payments) j) (l .own .0) (range .0) (range .1) (stamped-own i hi pi) (stamped-own j hj pj)
-        (apart-held i j hi hj (stamped-held i hi pi) (stamped-held j hj pj) o) in
+      stamps-differ (at (l .payments) i) (at (l .payments) j) (l .own .0) (range .0) (range .1) (stamped-own i hi pi) (stamped-own j hj pj)
+      (apart-held i j hi hj (stamped-held i hi pi) (stamped-held j hj pj) o) in
       below-stamps (at (l .payments) j) (at (l .payments) i) ∙ lt-ltb _ _ (less (rank (stampOf (at (l .payments) j))) (rank (stampOf (at (l .payments) i))) up (λ e. differ (sym e)))
     where
       less : (a b : ℕ) → a ≤ b → (a ≡ b → ⊥) → a < b
@@ -114,10 +118,7 @@ module _ (l : Ledger) (s : Almost l) (range : (1 ≤ l .own .0) × (l .own .0 �
   pub posting-rising : Rising (before (l .payments)) (toPost (l .payments) (l .own .0))
   posting-rising =
       sorted-rising (before (l .payments)) (isFree (l .payments) (l .own .0))
-      (λ a b c x y. below-stamps (at (l .payments) a) (at (l .payments) c)
-        ∙ lt-ltb _ _ (lt-trans
-          (ltb-true _ _ (sym (below-stamps (at (l .payments) a) (at (l .payments) b)) ∙ x))
-          (ltb-true _ _ (sym (below-stamps (at (l .payments) b) (at (l .payments) c)) ∙ y))))
+      (λ a b c. below-trans (at (l .payments) a) (at (l .payments) b) (at (l .payments) c))
       limit free-ordered
 
 -- exactly the free ones

@@ -11,12 +11,12 @@ use borrow.Author.Tests.{eqb-false, eqb-true, le-leb, le-ltb, ltb-false, ltb-tru
 use Rattle.common.proofs.TestLaws.{and-both, and-left, and-right, both, split}
 use Rattle.frame.specs.declared.Time.{Time}
 use Rattle.payment.specs.Payments.{hasStamp, heardFrom, isPosted, lastTime, stampOf, timeFrom}
-use Rattle.payment.specs.Right.{heardRight, lawful, notAbove, numbered, otherNumber, otherTimes, phaseRight, unused}
+use Rattle.payment.specs.Right.{heardRight, lawful, notAboveClock, numberNotZero, numbersDiffer, timesDiffer, phaseRight, unused}
 use Rattle.payment.specs.declared.Payment.{Payment}
 use Rattle.held.specs.Held.{at, limit, noPayment}
-use Rattle.held.specs.Checked.{behind, postedBelow, unusedAll}
+use Rattle.held.specs.Checked.{comesAfter, postedBelow, unusedAll}
 use Rattle.held.proofs.ReflectLaws.{each-at, each-so, pairs-at, pairs-so, posted-at, posted-so, unused-at, unused-so}
-use Rattle.ledger.specs.State.{isGroup}
+use Rattle.ledger.specs.State.{lawfulSetUp}
 use Rattle.ledger.specs.Sound.{each, inRange, pairs}
 use Rattle.ledger.specs.declared.Ledger.{Ledger}
 use Rattle.ledger.proofs.SoundLaws.{Sound}
@@ -24,13 +24,13 @@ use Rattle.ledger.proofs.SoundLaws.{Sound}
 -- every clause of soundness but that nothing is free to post
 pub record Almost (l : Ledger) : Type 0 where
   pub range : inRange l ≡ true
-  pub numbers : pairs l otherNumber ≡ true
-  pub number : each l numbered ≡ true
+  pub numbers : pairs l numbersDiffer ≡ true
+  pub number : each l numberNotZero ≡ true
   pub destinations : each l (lawful (l .group) (l .own .0)) ≡ true
   pub heard : each l heardRight ≡ true
   pub unused : unusedAll (l .payments) (l .count) ≡ true
-  pub times : pairs l otherTimes ≡ true
-  pub clock : each l (notAbove (l .own .0) (l .clock .0)) ≡ true
+  pub times : pairs l timesDiffer ≡ true
+  pub clock : each l (notAboveClock (l .own .0) (l .clock .0)) ≡ true
   pub phase : each l (phaseRight (l .own .0)) ≡ true
   pub posted : postedBelow (l .payments) (l .own .0) ≡ true
 
@@ -64,8 +64,8 @@ unused-unposted p e =
 not-less : (a b c : ℕ) → b ≤ c → ltb b a ≡ false → ltb c a ≡ false
 not-less a b c h e = let l = ltb-false b a e in le-ltb c a (omega arith)
 
-above-later : (p : Payment) (own clock clock′ : ℕ) → clock ≤ clock′ → notAbove own clock p ≡ true → notAbove own clock′ p ≡ true
-unfolding notAbove
+above-later : (p : Payment) (own clock clock′ : ℕ) → clock ≤ clock′ → notAboveClock own clock p ≡ true → notAboveClock own clock′ p ≡ true
+unfolding notAboveClock
 above-later p own clock clock′ h e =
     and-both
     (still (heardFrom p own) (timeFrom p own) (and-left (not (heardFrom p own && ltb clock (timeFrom p own))) _ e))
@@ -90,18 +90,18 @@ pub record Fits (l : Ledger) (count : ℕ) (clock : Time) (i : ℕ) (q : Payment
   pub grown : l .count ≤ count
   pub later : l .clock .0 ≤ clock .0
   pub time : clock .0 ≤ lastTime
-  pub number : numbered q ≡ true
+  pub number : numberNotZero q ≡ true
   pub destinations : lawful (l .group) (l .own .0) q ≡ true
   pub heard : heardRight q ≡ true
-  pub not-above : notAbove (l .own .0) (clock .0) q ≡ true
+  pub not-above : notAboveClock (l .own .0) (clock .0) q ≡ true
   pub phase : phaseRight (l .own .0) q ≡ true
   pub unposted : isPosted q ≡ false
   pub other-number : (j : ℕ) → j < limit → j < l .count → (j ≡ i → ⊥)
-      → (otherNumber q (at (l .payments) j) ≡ true) × (otherNumber (at (l .payments) j) q ≡ true)
+      → (numbersDiffer q (at (l .payments) j) ≡ true) × (numbersDiffer (at (l .payments) j) q ≡ true)
   pub other-times : (j : ℕ) → j < limit → j < l .count → (j ≡ i → ⊥)
-      → (otherTimes q (at (l .payments) j) ≡ true) × (otherTimes (at (l .payments) j) q ≡ true)
+      → (timesDiffer q (at (l .payments) j) ≡ true) × (timesDiffer (at (l .payments) j) q ≡ true)
   pub behind-posted : (j : ℕ) → j < limit → j < l .count → (j ≡ i → ⊥) → isPosted (at (l .payments) j) ≡ true
-      → behind (l .own .0) (stampOf (at (l .payments) j)) q ≡ true
+      → comesAfter (l .own .0) (stampOf (at (l .payments) j)) q ≡ true
 
 -- a posted payment is a held one
 pub posted-held : (l : Ledger) → Almost l → (j : ℕ) → j < limit → isPosted (at (l .payments) j) ≡ true → j < l .count
@@ -157,27 +157,27 @@ module _ (l : Ledger) (count : ℕ) (clock : Time) (i : ℕ) (q : Payment) (s : 
       (λ j k h g. by-place j i
       (λ a p. both (subst (λ x. isPosted x ≡ true) (ap (at (set (l .payments) i q)) a ∙ at-new) p) (w .unposted))
       (λ a p. let p₀ = subst (λ x. isPosted x ≡ true) (at-old j a) p in
-      subst (λ x. behind (l .own .0) (stampOf x) (at (set (l .payments) i q) k) ≡ true) (sym (at-old j a))
-      (at-each (λ x. behind (l .own .0) (stampOf (at (l .payments) j)) x ≡ true) k
+      subst (λ x. comesAfter (l .own .0) (stampOf x) (at (set (l .payments) i q) k) ≡ true) (sym (at-old j a))
+      (at-each (λ x. comesAfter (l .own .0) (stampOf (at (l .payments) j)) x ≡ true) k
       (w .behind-posted j h (posted-held l s j h p₀) a p₀)
       (λ b. posted-at (l .payments) (l .own .0) (s .posted) j k h g p₀))))
 
   range-kept : inRange (with-payment l count clock i q) ≡ true
   range-kept =
-      and-both (and-left (isGroup (l .group) (l .own .0)) _ (s .range)) (and-both (le-leb _ _ (w .time)) (le-leb _ _ (w .few)))
+      and-both (and-left (lawfulSetUp (l .group) (l .own .0)) _ (s .range)) (and-both (le-leb _ _ (w .time)) (le-leb _ _ (w .few)))
 
   pub replaced : Almost (with-payment l count clock i q)
   replaced =
       record {
         range = range-kept;
-        numbers = pairs-kept otherNumber (s .numbers) (w .other-number);
-        number = each-kept numbered numbered (s .number) (λ p e. e) (w .number);
+        numbers = pairs-kept numbersDiffer (s .numbers) (w .other-number);
+        number = each-kept numberNotZero numberNotZero (s .number) (λ p e. e) (w .number);
         destinations = each-kept (lawful (l .group) (l .own .0)) (lawful (l .group) (l .own .0)) (s .destinations) (λ p e. e) (w .destinations);
         heard = each-kept heardRight heardRight (s .heard) (λ p e. e) (w .heard);
         unused = unused-kept;
-        times = pairs-kept otherTimes (s .times) (w .other-times);
+        times = pairs-kept timesDiffer (s .times) (w .other-times);
         clock =
-            each-kept (notAbove (l .own .0) (l .clock .0)) (notAbove (l .own .0) (clock .0)) (s .clock)
+            each-kept (notAboveClock (l .own .0) (l .clock .0)) (notAboveClock (l .own .0) (clock .0)) (s .clock)
             (λ p. above-later p (l .own .0) (l .clock .0) (clock .0) (w .later)) (w .not-above);
         phase = each-kept (phaseRight (l .own .0)) (phaseRight (l .own .0)) (s .phase) (λ p e. e) (w .phase);
         posted = posted-kept;

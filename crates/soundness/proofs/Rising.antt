@@ -1,7 +1,7 @@
 -- Laws of places in order: which ones they are, and that they rise.
 -- Assumes nothing.
 use Prim.Native.Nat.{ℕ, zero, suc, _<_}
-use mathlib.Core.Path.{_≡_, refl, ap, sym, _∙_, subst}
+use mathlib.Core.Path.{_≡_, refl, sym, subst}
 use mathlib.Core.List.{List, [], _∷_}
 use mathlib.Core.Bool.{Bool, true, false, cond}
 use mathlib.Core.Logic.{_⊎_, inl, inr, ⊎-elim}
@@ -106,6 +106,6 @@ module _ (before : ℕ → ℕ → Bool) where
         let rest = sorted-rising trans n (λ i j h g. total i j (omega arith) (omega arith)) in
         at-sorted (Rising before) n
         (λ t. rising-insert n (sorted before f n) trans
-          (sorted-all (λ j. before n j ≡ false → before j n ≡ true) n (λ k h e. total n k (omega arith) (omega arith) t e (λ q. omega arith)))
-          rest)
+        (sorted-all (λ j. before n j ≡ false → before j n ≡ true) n (λ k h e. total n k (omega arith) (omega arith) t e (λ q. omega arith)))
+        rest)
         (λ t. rest)

@@ -11,7 +11,7 @@ use borrow.Author.Tests.{eq-eqb, eqb-false, eqb-true, leb-false, leb-true, lt-lt
 use Rattle.common.proofs.PlaceLaws.{any-none, any-place, getD-listed}
 use Rattle.common.proofs.TestLaws.{and-go, and-left, and-right, split}
 use Rattle.payment.specs.Payments.{heardFrom, isPosted, isProposed, isStamped, stampOf, timeFrom}
-use Rattle.payment.specs.Right.{heardRight, lawful, notAbove, numbered, otherNumber, otherTimes, phaseRight, unused}
+use Rattle.payment.specs.Right.{heardRight, lawful, notAboveClock, numberNotZero, numbersDiffer, timesDiffer, phaseRight, unused}
 use Rattle.payment.specs.declared.Payment.{Payment}
 use Rattle.payment.specs.declared.Stamp.{Stamp}
 use Rattle.payment.proofs.KeptLaws.{otherTimes-proposed}
@@ -19,7 +19,7 @@ use Rattle.payment.proofs.RightLaws.{later-stamp}
 use Rattle.payment.proofs.StampLaws.{below-time}
 use Rattle.held.specs.Held.{at, limit, noPayment}
 use Rattle.held.specs.Posting.{afterPosting, heldBack, holdsBack, isFree, nowPosted}
-use Rattle.held.specs.Checked.{behind, noneFree, postedBelow, unusedAll}
+use Rattle.held.specs.Checked.{comesAfter, noneFree, postedBelow, unusedAll}
 use Rattle.held.proofs.FreeLaws.{back-proposed, behind-other, behind-proposed, behind-stamped, free-held, free-other}
 use Rattle.held.proofs.PostLaws.{free-stamped}
 use Rattle.held.proofs.ReflectLaws.{each-at, each-so, none-so, pairs-at, pairs-so, posted-at, posted-so, unused-at, unused-so}
@@ -44,8 +44,8 @@ unfolding holdsBack
 holder own s p e = (eqb-true _ _ (and-left (isProposed p) _ e), leb-true _ _ (and-right (isProposed p) _ e))
 
 -- posted in place of stamped changes neither numbers, nor destinations, nor times
-otherTimes-posted : (p q : Payment) → otherTimes p q ≡ true
-    → (otherTimes (nowPosted p) q ≡ true) × (otherTimes p (nowPosted q) ≡ true) × (otherTimes (nowPosted p) (nowPosted q) ≡ true)
+otherTimes-posted : (p q : Payment) → timesDiffer p q ≡ true
+    → (timesDiffer (nowPosted p) q ≡ true) × (timesDiffer p (nowPosted q) ≡ true) × (timesDiffer (nowPosted p) (nowPosted q) ≡ true)
 otherTimes-posted p q e =
     let plain = sym (otherTimes-proposed p q) ∙ e in
     (otherTimes-proposed (nowPosted p) q ∙ plain, otherTimes-proposed p (nowPosted q) ∙ plain, otherTimes-proposed (nowPosted p) (nowPosted q) ∙ plain)
@@ -54,8 +54,8 @@ heardRight-posted : (p : Payment) → heardRight p ≡ true → heardRight (nowP
 unfolding heardRight
 heardRight-posted p e = e
 
-notAbove-posted : (own clock : ℕ) (p : Payment) → p .phase ≡ 2 → notAbove own clock p ≡ true → notAbove own clock (nowPosted p) ≡ true
-unfolding notAbove
+notAbove-posted : (own clock : ℕ) (p : Payment) → p .phase ≡ 2 → notAboveClock own clock p ≡ true → notAboveClock own clock (nowPosted p) ≡ true
+unfolding notAboveClock
 notAbove-posted own clock p h e = subst (λ b. not (heardFrom p own && ltb clock (timeFrom p own)) && not ((b || eqb (p .phase) 3) && ltb clock (stampOf p .time .0)) ≡ true) (eq-eqb _ _ h) e
 
 phaseRight-posted : (own : ℕ) (p : Payment) → p .phase ≡ 2 → phaseRight own p ≡ true → phaseRight own (nowPosted p) ≡ true
@@ -98,24 +98,24 @@ module _ (l : Ledger) (s : Almost l) where
       (λ t. up (at (l .payments) j) (free-stamped (l .payments) (l .own .0) j t) was)
       (λ t. was))
 
-  times-after : pairs settled otherTimes ≡ true
+  times-after : pairs settled timesDiffer ≡ true
   times-after =
-      pairs-so (afterPosting (l .payments) (l .own .0)) (l .count) otherTimes
+      pairs-so (afterPosting (l .payments) (l .own .0)) (l .count) timesDiffer
       (λ j k h u lt. let was = otherTimes-posted (at (l .payments) j) (at (l .payments) k) in
-      let old = pairs-at (l .payments) (l .count) otherTimes (s .times) j k h u lt in
+      let old = pairs-at (l .payments) (l .count) timesDiffer (s .times) j k h u lt in
       let g : k < limit = omega arith in
-      after (λ p. otherTimes p (at (afterPosting (l .payments) (l .own .0)) k) ≡ true) j h
-      (λ t. after (λ q. otherTimes (nowPosted (at (l .payments) j)) q ≡ true) k g (λ r. was old .2) (λ r. was old .0))
-      (λ t. after (λ q. otherTimes (at (l .payments) j) q ≡ true) k g (λ r. was old .1) (λ r. old)))
+      after (λ p. timesDiffer p (at (afterPosting (l .payments) (l .own .0)) k) ≡ true) j h
+      (λ t. after (λ q. timesDiffer (nowPosted (at (l .payments) j)) q ≡ true) k g (λ r. was old .2) (λ r. was old .0))
+      (λ t. after (λ q. timesDiffer (at (l .payments) j) q ≡ true) k g (λ r. was old .1) (λ r. old)))
 
-  numbers-after : pairs settled otherNumber ≡ true
+  numbers-after : pairs settled numbersDiffer ≡ true
   numbers-after =
-      pairs-so (afterPosting (l .payments) (l .own .0)) (l .count) otherNumber
-      (λ j k h u lt. let old = pairs-at (l .payments) (l .count) otherNumber (s .numbers) j k h u lt in
+      pairs-so (afterPosting (l .payments) (l .own .0)) (l .count) numbersDiffer
+      (λ j k h u lt. let old = pairs-at (l .payments) (l .count) numbersDiffer (s .numbers) j k h u lt in
       let g : k < limit = omega arith in
-      after (λ p. otherNumber p (at (afterPosting (l .payments) (l .own .0)) k) ≡ true) j h
-      (λ t. after (λ q. otherNumber (nowPosted (at (l .payments) j)) q ≡ true) k g (λ r. old) (λ r. old))
-      (λ t. after (λ q. otherNumber (at (l .payments) j) q ≡ true) k g (λ r. old) (λ r. old)))
+      after (λ p. numbersDiffer p (at (afterPosting (l .payments) (l .own .0)) k) ≡ true) j h
+      (λ t. after (λ q. numbersDiffer (nowPosted (at (l .payments) j)) q ≡ true) k g (λ r. old) (λ r. old))
+      (λ t. after (λ q. numbersDiffer (at (l .payments) j) q ≡ true) k g (λ r. old) (λ r. old)))
 
   -- an unused place is not free
   unused-after : unusedAll (afterPosting (l .payments) (l .own .0)) (l .count) ≡ true
@@ -159,7 +159,7 @@ module _ (l : Ledger) (s : Almost l) where
 
   -- what was free comes before what is held back, and before every proposed payment's own time
   free-behind : (j k : ℕ) → k < limit → isFree (l .payments) (l .own .0) j ≡ true → isFree (l .payments) (l .own .0) k ≡ false
-      → behind (l .own .0) (stampOf (at (l .payments) j)) (at (l .payments) k) ≡ true
+      → comesAfter (l .own .0) (stampOf (at (l .payments) j)) (at (l .payments) k) ≡ true
   free-behind j k g t u =
       split (isStamped (at (l .payments) k))
       (λ p. let stamp = eqb-true _ _ p in
@@ -181,12 +181,12 @@ module _ (l : Ledger) (s : Almost l) where
   posted-after : postedBelow (afterPosting (l .payments) (l .own .0)) (l .own .0) ≡ true
   posted-after =
       posted-so (afterPosting (l .payments) (l .own .0)) (l .own .0)
-      (λ j k h g. after (λ p. isPosted p ≡ true → behind (l .own .0) (stampOf p) (at (afterPosting (l .payments) (l .own .0)) k) ≡ true) j h
-      (λ t e. after (λ q. behind (l .own .0) (stampOf (at (l .payments) j)) q ≡ true) k g (λ u. past j k) (λ u. free-behind j k g t u))
-      (λ t e. after (λ q. behind (l .own .0) (stampOf (at (l .payments) j)) q ≡ true) k g (λ u. past j k)
+      (λ j k h g. after (λ p. isPosted p ≡ true → comesAfter (l .own .0) (stampOf p) (at (afterPosting (l .payments) (l .own .0)) k) ≡ true) j h
+      (λ t e. after (λ q. comesAfter (l .own .0) (stampOf (at (l .payments) j)) q ≡ true) k g (λ u. past j k) (λ u. free-behind j k g t u))
+      (λ t e. after (λ q. comesAfter (l .own .0) (stampOf (at (l .payments) j)) q ≡ true) k g (λ u. past j k)
       (λ u. posted-at (l .payments) (l .own .0) (s .posted) j k h g e)))
     where
-      past : (j k : ℕ) → behind (l .own .0) (stampOf (at (l .payments) j)) (nowPosted (at (l .payments) k)) ≡ true
+      past : (j k : ℕ) → comesAfter (l .own .0) (stampOf (at (l .payments) j)) (nowPosted (at (l .payments) k)) ≡ true
       past j k = behind-other (l .own .0) (stampOf (at (l .payments) j)) (nowPosted (at (l .payments) k)) (λ e. omega arith) (λ e. omega arith)
 
   pub settles : Sound settled
@@ -194,12 +194,12 @@ module _ (l : Ledger) (s : Almost l) where
       record {
         range = s .range;
         numbers = numbers-after;
-        number = each-after numbered (s .number) (λ p h e. e);
+        number = each-after numberNotZero (s .number) (λ p h e. e);
         destinations = each-after (lawful (l .group) (l .own .0)) (s .destinations) (λ p h e. e);
         heard = each-after heardRight (s .heard) (λ p h e. heardRight-posted p e);
         unused = unused-after;
         times = times-after;
-        clock = each-after (notAbove (l .own .0) (l .clock .0)) (s .clock) (notAbove-posted (l .own .0) (l .clock .0));
+        clock = each-after (notAboveClock (l .own .0) (l .clock .0)) (s .clock) (notAbove-posted (l .own .0) (l .clock .0));
         phase = each-after (phaseRight (l .own .0)) (s .phase) (phaseRight-posted (l .own .0));
         free = none-after;
         posted = posted-after;

@@ -65,7 +65,7 @@ module _ (l : Ledger) (frame outgoing list : List ℕ) where
   step-sound shape s =
       split (eqb (answerTo l frame outgoing list) 0)
       (λ t. let k = is-taken (eqb-true _ _ t) in
-      ap (λ o. sound (o .state)) (k .so) ∙ taken-sound l (incoming (frameValues frame)) s shape (k .unrefused) outgoing list (k .list-fits))
+      ap (λ o. sound (o .state)) (k .so) ∙ taken-sound l (incoming (frameValues frame)) s shape (k .unrefused) outgoing list)
       (λ t. ap (λ o. sound (o .state)) (is-refused (eqb-false _ _ t)) ∙ s)
 
   pub step-shaped : Shaped l → Shaped (step l frame outgoing list .state)
@@ -73,5 +73,5 @@ module _ (l : Ledger) (frame outgoing list : List ℕ) where
       split (eqb (answerTo l frame outgoing list) 0)
       (λ t. let k = is-taken (eqb-true _ _ t) in
       subst (λ o. Shaped (o .state)) (sym (k .so))
-      (taken-shaped l (incoming (frameValues frame)) (k .is-sound) shape (k .unrefused) outgoing list (k .list-fits)))
+      (taken-shaped l (incoming (frameValues frame)) (k .is-sound) shape (k .unrefused) outgoing list))
       (λ t. subst (λ o. Shaped (o .state)) (sym (is-refused (eqb-false _ _ t))) shape)

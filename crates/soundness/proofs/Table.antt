@@ -1,7 +1,7 @@
 -- Each refusal is given exactly when its condition holds and none before it does: one law over the table.
 -- Assumes nothing.
-use Prim.Native.Nat.{ℕ, zero, suc, _+_, _<_, _≤_}
-use mathlib.Core.Path.{_≡_, refl, ap, sym, _∙_, subst}
+use Prim.Native.Nat.{ℕ, zero, suc, _+_, _<_}
+use mathlib.Core.Path.{_≡_, refl, ap, _∙_, subst}
 use mathlib.Core.List.{List, [], _∷_}
 use mathlib.Core.Bool.{Bool, true, false, cond, _&&_}
 use lib.Dec.{eqb, ltb}
@@ -9,7 +9,7 @@ use borrow.Author.Tests.{eqb-true, ltb-false, ltb-true}
 use mathlib.Core.Logic.{_⊎_, inl, inr, ⊎-elim}
 use native.Mathlib.Nat.{not-suc-le-zero}
 use native.Mathlib.Omega.{arith}
-use lib.ListN.{drop, getD, length}
+use lib.ListN.{getD, length}
 use Rattle.common.proofs.TestLaws.{and-left, and-right, both, split}
 use Rattle.ledger.specs.Refusals.{Row, answerTo, firstGiven, refusals, row}
 use Rattle.ledger.specs.declared.Ledger.{Ledger}
@@ -33,10 +33,10 @@ by-first (r ∷ rs) =
     split (r .given)
     (λ t. inl (zero, record { inside = omega arith; so = t; none-before = λ j h. absurd (not-suc-le-zero h) }, ap (λ b. cond b (r .no) (firstGiven rs)) t))
     (λ t. let on : firstGiven (r ∷ rs) ≡ firstGiven rs = ap (λ b. cond b (r .no) (firstGiven rs)) t in
-      ⊎-elim
-      (λ x. inl (suc (x .0), record { inside = omega (arith, x .1 .inside); so = x .1 .so; none-before = before t (x .1 .none-before) }, on ∙ x .2))
-      (λ x. inr (before′ t (x .0), on ∙ x .1))
-      (by-first rs))
+    ⊎-elim
+    (λ x. inl (suc (x .0), record { inside = omega (arith, x .1 .inside); so = x .1 .so; none-before = before t (x .1 .none-before) }, on ∙ x .2))
+    (λ x. inr (before′ t (x .0), on ∙ x .1))
+    (by-first rs))
   where
     before : {n : ℕ} → r .given ≡ false → ((j : ℕ) → j < n → applies rs j ≡ false) → (j : ℕ) → j < suc n → applies (r ∷ rs) j ≡ false
     before t f zero h = t
@@ -72,15 +72,15 @@ module _ (l : Ledger) (frame outgoing list : List ℕ) where
       × (First (refusals l frame outgoing list) k → answerTo l frame outgoing list ≡ suc k)
   refusal-exactly k h = (
     λ e. ⊎-elim
-      (λ x. let same : x .0 ≡ k = omega (arith, row-number (x .0) (x .1 .inside), x .2, e) in
+        (λ x. let same : x .0 ≡ k = omega (arith, row-number (x .0) (x .1 .inside), x .2, e) in
         subst (First (refusals l frame outgoing list)) same (x .1))
-      (λ x. let z = x .1 in absurd (omega (arith, z, e)))
-      (by-first (refusals l frame outgoing list)),
+        (λ x. let z = x .1 in absurd (omega (arith, z, e)))
+        (by-first (refusals l frame outgoing list)),
     λ w. ⊎-elim
-      (λ x. let same : x .0 ≡ k = only w (x .1) in
+        (λ x. let same : x .0 ≡ k = only w (x .1) in
         x .2 ∙ row-number (x .0) (x .1 .inside) ∙ ap suc same)
-      (λ x. both (w .so) (x .0 k (w .inside)))
-      (by-first (refusals l frame outgoing list)),
+        (λ x. both (w .so) (x .0 k (w .inside)))
+        (by-first (refusals l frame outgoing list)),
   )
     where
       only : {i j : ℕ} → First (refusals l frame outgoing list) i → First (refusals l frame outgoing list) j → j ≡ i
@@ -88,19 +88,19 @@ module _ (l : Ledger) (frame outgoing list : List ℕ) where
           split (ltb i j)
           (λ t. both (v .so) (w .none-before i (ltb-true _ _ t)))
           (λ t. split (ltb j i)
-            (λ u. both (w .so) (v .none-before j (ltb-true _ _ u)))
-            (λ u. let a = ltb-false i j t in let b = ltb-false j i u in omega (arith, a, b)))
+          (λ u. both (w .so) (v .none-before j (ltb-true _ _ u)))
+          (λ u. let a = ltb-false i j t in let b = ltb-false j i u in omega (arith, a, b)))
 
   -- a frame is taken exactly when no row of the table applies
   pub taken-exactly : (answerTo l frame outgoing list ≡ 0 → (k : ℕ) → k < 11 → applies (refusals l frame outgoing list) k ≡ false)
       × (((k : ℕ) → k < 11 → applies (refusals l frame outgoing list) k ≡ false) → answerTo l frame outgoing list ≡ 0)
   taken-exactly = (
     λ e. ⊎-elim
-      (λ x. let q = row-number (x .0) (x .1 .inside) in absurd (omega (arith, q, x .2, e)))
-      (λ x. x .0)
-      (by-first (refusals l frame outgoing list)),
+        (λ x. let q = row-number (x .0) (x .1 .inside) in absurd (omega (arith, q, x .2, e)))
+        (λ x. x .0)
+        (by-first (refusals l frame outgoing list)),
     λ f. ⊎-elim
-      (λ x. both (x .1 .so) (f (x .0) (x .1 .inside)))
-      (λ x. x .1)
-      (by-first (refusals l frame outgoing list)),
+        (λ x. both (x .1 .so) (f (x .0) (x .1 .inside)))
+        (λ x. x .1)
+        (by-first (refusals l frame outgoing list)),
   )

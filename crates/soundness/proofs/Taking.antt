@@ -11,7 +11,7 @@ use borrow.Author.Tests.{eqb-true, le-ltb, lt-ltb, ne-eqb, not-false}
 use Rattle.common.proofs.TestLaws.{and-both, both, or-right, split}
 use Rattle.payment.specs.Ledgers.{has}
 use Rattle.payment.specs.Payments.{allHeard, hasStamp, heardFrom, isPosted, isTime, lastTime, stampOf, timeFrom, unlawful}
-use Rattle.payment.specs.Right.{heardRight, lawful, notAbove, numbered, otherNumber, otherTimes}
+use Rattle.payment.specs.Right.{heardRight, lawful, notAboveClock, numberNotZero, numbersDiffer, timesDiffer}
 use Rattle.payment.specs.declared.Payment.{Payment}
 use Rattle.payment.proofs.GreatestLaws.{greatest-ledger}
 use Rattle.payment.proofs.HearLaws.{Hears}
@@ -62,8 +62,8 @@ unfolding heardRight
 right-phase phase p e = e
 
 not-above-so : (p : Payment) (own clock : ℕ) → (heardFrom p own ≡ true → timeFrom p own ≤ clock) → (hasStamp p ≡ true → stampOf p .time .0 ≤ clock)
-    → notAbove own clock p ≡ true
-unfolding notAbove
+    → notAboveClock own clock p ≡ true
+unfolding notAboveClock
 not-above-so p own clock f g = and-both (side (heardFrom p own) (timeFrom p own) f) (side (hasStamp p) (stampOf p .time .0) g)
   where
     side : (b : Bool) (t : ℕ) → (b ≡ true → t ≤ clock) → not (b && ltb clock t) ≡ true
@@ -118,11 +118,11 @@ module _ (l : Ledger) (f : Incoming) (s : Sound l) (shape : Shaped l) (a : Accep
 
   -- any payment that keeps the same, whatever its phase
   module _ (r : Payment) (number : r .number ≡ q .number) (dest : r .destinations ≡ q .destinations) where
-    numbered-now : numbered r ≡ true
+    numbered-now : numberNotZero r ≡ true
     numbered-now = ap (λ x. not (eqb (x .0) 0)) (number ∙ n .heard .number) ∙ ap (λ x. not (eqb x 0)) (b .number) ∙ ap not (a .payment)
 
     other-number-now : (j : ℕ) → j < limit → j < l .count → (j ≡ placeFor l f → ⊥)
-        → (otherNumber r (at (l .payments) j) ≡ true) × (otherNumber (at (l .payments) j) r ≡ true)
+        → (numbersDiffer r (at (l .payments) j) ≡ true) × (numbersDiffer (at (l .payments) j) r ≡ true)
     other-number-now j h u o =
         let mine : r .number .0 ≡ f .payment .0 = ap (λ x. x .0) (number ∙ n .heard .number) ∙ b .number in
         (ap not (ne-eqb _ _ (λ e. b .other j h u o (sym e ∙ mine))), ap not (ne-eqb _ _ (λ e. b .other j h u o (e ∙ mine))))
@@ -130,7 +130,7 @@ module _ (l : Ledger) (f : Incoming) (s : Sound l) (shape : Shaped l) (a : Accep
   module _ (r : Payment) (number : r .number ≡ q .number) (dest : r .destinations ≡ q .destinations)
       (same : (j : ℕ) → Apart q (at (l .payments) j) → Apart r (at (l .payments) j)) where
     other-times-now : (j : ℕ) → j < limit → j < l .count → (j ≡ placeFor l f → ⊥)
-        → (otherTimes r (at (l .payments) j) ≡ true) × (otherTimes (at (l .payments) j) r ≡ true)
+        → (timesDiffer r (at (l .payments) j) ≡ true) × (timesDiffer (at (l .payments) j) r ≡ true)
     other-times-now j h u o =
         let mine = same j (apart-now j h u o) in
         (apart-so r (at (l .payments) j) mine, apart-so (at (l .payments) j) r (apart-sym r (at (l .payments) j) mine))

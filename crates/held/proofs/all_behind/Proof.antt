@@ -5,14 +5,14 @@ use Prim.Native.Nat.{_-_, _≤_}
 use Rattle.common.specs.Places.{every}
 use Rattle.common.proofs.PlaceLaws.{every-fails, every-more}
 use Rattle.held.specs.Held.{at, limit}
-use Rattle.held.specs.Checked.{behind}
+use Rattle.held.specs.Checked.{comesAfter}
 use Rattle.payment.specs.Payments.{isPosted, stampOf}
 use borrow.Author.Needs.{needs}
 use Rattle.held.proofs.all_behind.Statement.{statement}
 use Rattle.held.proofs.all_behind.Tie as tie
 
 abbrev Inv-loop : tie.InvT-loop
-Inv-loop own payments i₀ i = (i ≤ limit) × (every i (λ j. not (isPosted (at payments j)) || every limit (λ k. behind (own .0) (stampOf (at payments j)) (at payments k))) ≡ true)
+Inv-loop own payments i₀ i = (i ≤ limit) × (every i (λ j. not (isPosted (at payments j)) || every limit (λ k. comesAfter (own .0) (stampOf (at payments j)) (at payments k))) ≡ true)
 
 abbrev μ-loop : tie.MeasureT-loop
 μ-loop own payments i₀ i = limit - i
@@ -22,10 +22,10 @@ unfolding every
 loop-holds c = search needs
 
 returns : tie.Need-returns Inv-loop μ-loop
-returns c = sym (every-fails limit (λ j. not (isPosted (at (c .before .before .before .before .before .args .t1) j)) || every limit (λ k. behind (c .before .before .before .before .before .args .own .0) (stampOf (at (c .before .before .before .before .before .args .t1) j)) (at (c .before .before .before .before .before .args .t1) k))) (c .before .before .before .before .loop .i) (c .before .before .before .loop-test .taken) (sym (c .before .behind-at .ensures) ∙ c .if1 .left))
+returns c = sym (every-fails limit (λ j. not (isPosted (at (c .before .before .before .before .before .args .t1) j)) || every limit (λ k. comesAfter (c .before .before .before .before .before .args .own .0) (stampOf (at (c .before .before .before .before .before .args .t1) j)) (at (c .before .before .before .before .before .args .t1) k))) (c .before .before .before .before .loop .i) (c .before .before .before .loop-test .taken) (sym (c .before .behind-at .ensures) ∙ c .if1 .left))
 
 loop-again : tie.Need-loop-again Inv-loop μ-loop
-loop-again c = (search needs, every-more (λ j. not (isPosted (at (c .before .before .before .before .before .args .t1) j)) || every limit (λ k. behind (c .before .before .before .before .before .args .own .0) (stampOf (at (c .before .before .before .before .before .args .t1) j)) (at (c .before .before .before .before .before .args .t1) k))) (c .before .before .before .before .loop .i) (c .before .before .before .before .loop .inv .1) (sym (c .before .behind-at .ensures) ∙ c .if1 .taken))
+loop-again c = (search needs, every-more (λ j. not (isPosted (at (c .before .before .before .before .before .args .t1) j)) || every limit (λ k. comesAfter (c .before .before .before .before .before .args .own .0) (stampOf (at (c .before .before .before .before .before .args .t1) j)) (at (c .before .before .before .before .before .args .t1) k))) (c .before .before .before .before .loop .i) (c .before .before .before .before .loop .inv .1) (sym (c .before .behind-at .ensures) ∙ c .if1 .taken))
 
 returns-2 : tie.Need-returns-2 Inv-loop μ-loop
 returns-2 c =

@@ -15,7 +15,7 @@ returns c =
 take-requires : tie.Need-take-requires
 take-requires c κs =
     let a = c .before .before .before .before .before .before .before .before .args in
-    (c .before .before .before .before .find .ensures, count-range (a .self) (c .before .before .before .before .before .before .before .before .pre), place-range (a .self) (a .f) (c .before .before .before .before .before .before .before .before .pre) (sym (c .before .before .before .refusal .ensures) ∙ c .before .before .if1 .left), clock-range (a .self) (c .before .before .before .before .before .before .before .before .pre))
+    (c .before .before .before .before .find .ensures, count-range (a .self) (c .before .before .before .before .before .before .before .before .pre .0), place-range (a .self) (a .f) (c .before .before .before .before .before .before .before .before .pre .0) (sym (c .before .before .before .refusal .ensures) ∙ c .before .before .if1 .left), clock-range (a .self) (c .before .before .before .before .before .before .before .before .pre .0), c .before .before .before .before .before .before .before .before .pre .1)
 
 returns-2 : tie.Need-returns-2
 returns-2 c =

@@ -22,7 +22,7 @@ returns-2 c =
     ∙ sym (step-few (a .self) (now (a .frame)) (now (a .outgoing)) (now (a .postings)) (sym (c .before .before .before .before .is-sound .ensures) ∙ c .before .before .before .if1 .taken) (c .before .if3 .taken))
 
 judge-requires : tie.Need-judge-requires
-judge-requires c κs = sym (c .before .before .before .before .before .before .before .before .before .before .is-sound .ensures) ∙ c .before .before .before .before .before .before .before .before .before .if1 .taken
+judge-requires c κs = (sym (c .before .before .before .before .before .before .before .before .before .before .is-sound .ensures) ∙ c .before .before .before .before .before .before .before .before .before .if1 .taken, c .before .before .before .before .before .before .before .if3 .left)
 
 returns-3 : tie.Need-returns-3
 returns-3 c =

@@ -1,5 +1,5 @@
 use mathlib.Core.Path.{ap, ap₂, _∙_}
-use Rattle.ledger.specs.Step.{settling, stampRule}
+use Rattle.ledger.specs.Step.{postRule, stampRule}
 use Rattle.payment.specs.Ledgers.{howMany}
 use denote.Ref.{now}
 use borrow.Author.Needs.{needs}
@@ -9,7 +9,7 @@ use Rattle.ledger.proofs.Ledger.take.Tie as tie
 returns : tie.Need-returns
 returns c =
     let a = c .before .before .before .before .before .before .before .before .before .before .before .before .before .before .before .before .args in
-    let settled = c .before .before .before .before .post .ensures ∙ ap (λ l. settling l (now (a .postings))) (c .before .before .before .before .before .before .stamp .ensures ∙ ap₂ stampRule (c .before .before .before .before .before .before .before .receive .ensures) (c .before .before .before .before .before .before .before .before .place-for .ensures)) in
+    let settled = c .before .before .before .before .post .ensures ∙ ap (λ l. postRule l (now (a .postings))) (c .before .before .before .before .before .before .stamp .ensures ∙ ap₂ stampRule (c .before .before .before .before .before .before .before .receive .ensures) (c .before .before .before .before .before .before .before .before .place-for .ensures)) in
     λ k. record {
       state = settled k .state;
       answer = 0;
