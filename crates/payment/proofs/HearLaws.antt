@@ -1,9 +1,9 @@
 -- What hearing one ledger's time changes, and what it leaves.
 -- Assumes nothing.
-use Prim.Native.Nat.{ℕ, zero, suc, _+_, _^_, _<_, _≤_}
+use Prim.Native.Nat.{ℕ, zero, suc, _-_, _+_, _^_, _<_, _≤_}
 use mathlib.Core.Path.{_≡_, refl, ap, sym, _∙_, subst}
 use mathlib.Core.List.{List}
-use mathlib.Core.Bool.{Bool, true, false, cond, _||_, Bool·beq}
+use mathlib.Core.Bool.{Bool, true, false, cond, _||_, Bool·beq, not, _&&_}
 use native.Mathlib.Omega.{arith}
 use lib.Dec.{eqb, ltb}
 use lib.ListN.{getD, length, length-set, set}
@@ -16,7 +16,7 @@ use Rattle.common.specs.Places.{every}
 use Rattle.common.proofs.PlaceLaws.{every-at}
 use Rattle.common.proofs.ByteLaws.{at-byte}
 use Rattle.frame.specs.declared.Time.{Time}
-use Rattle.payment.specs.Ledgers.{has, with}
+use Rattle.payment.specs.Ledgers.{has, with, without}
 use Rattle.payment.specs.Payments.{hear, heardFrom, noTime, timeFrom, timeIn}
 use Rattle.payment.specs.declared.Payment.{Payment}
 
@@ -86,3 +86,11 @@ pub hear-phase : (p : Payment) (w : ℕ) (t : Time) → hear p w t .phase ≡ p 
 unfolding hear
 hear-phase p zero t = refl
 hear-phase p (suc l) t = split (ltb l 8) (λ e. simp e) (λ e. simp e)
+
+-- the ledgers of a byte without one: all others, and not that one
+pub without-has : (d l k : ℕ) → d < 256 → l < 8 → k < 8 → has (without d (suc l)) (suc k) ≡ not (eqb k l) && has d (suc k)
+unfolding without has every
+without-has d l k hd hl hk =
+    same-test _ _
+    (every-at 8 (λ k. Bool·beq (bit (cond (bit d l) (d - 2 ^ l) d) k) (not (eqb k l) && bit d k))
+    (at-byte (λ d l. every 8 (λ k. Bool·beq (bit (cond (bit d l) (d - 2 ^ l) d) k) (not (eqb k l) && bit d k))) refl d l hd hl) k hk)

@@ -19,6 +19,7 @@ use Rattle.payment.proofs.KeptLaws.{keeps-proposes}
 use Rattle.payment.proofs.LedgerLaws.{place}
 use Rattle.held.specs.Held.{at, isNumber, limit}
 use Rattle.held.proofs.ReflectLaws.{each-at}
+use Rattle.ledger.specs.Sound.{inRange}
 use Rattle.ledger.specs.State.{lawfulSetUp}
 use Rattle.ledger.specs.Refusals.{otherDestinations, isPropose, anotherTime}
 use Rattle.ledger.specs.Step.{inPhase, newOwnTime, paymentFor, placeFor}
@@ -36,9 +37,9 @@ stamp-below p own clock h e =
     ltb-false _ _ (sym (and-go (ltb clock (stampOf p .time .0)) h) ∙ not-true _ (and-right (not (heardFrom p own && ltb clock (timeFrom p own))) _ e))
 
 -- the ranges of a sound ledger
-module _ (l : Ledger) (s : Sound l) where
+module _ (l : Ledger) (range : inRange l ≡ true) where
   group-is : lawfulSetUp (l .group) (l .own .0) ≡ true
-  group-is = and-left (lawfulSetUp (l .group) (l .own .0)) _ (s .range)
+  group-is = and-left (lawfulSetUp (l .group) (l .own .0)) _ range
 
   pub group-range : l .group ≤ 8
   group-range = leb-true _ _ (and-left (leb (l .group) 8) _ (and-right (leb 1 (l .group)) _ group-is))
@@ -50,6 +51,7 @@ module _ (l : Ledger) (s : Sound l) where
       let top = group-range in
       (leb-true _ _ (and-left (leb 1 (l .own .0)) _ both-own), omega arith)
 
+module _ (l : Ledger) (s : Sound l) where
   -- a posted payment's stamp is not above the clock
   posted-time : (j : ℕ) → j < limit → isPosted (at (l .payments) j) ≡ true → stampOf (at (l .payments) j) .time .0 ≤ l .clock .0
   posted-time j h p =
@@ -63,7 +65,7 @@ module _ (l : Ledger) (f : Incoming) (s : Sound l) (a : Accepted l f) (b : Base 
 
   multicast-heard : Hears (paymentFor l f) multicasted (l .own .0) (l .clock .0 + 1)
   multicast-heard =
-      let v = hears (paymentFor l f) (l .own .0) (newOwnTime l) (own-range l s .0) (own-range l s .1) (b .byte) (b .size) in
+      let v = hears (paymentFor l f) (l .own .0) (newOwnTime l) (own-range l (s .range) .0) (own-range l (s .range) .1) (b .byte) (b .size) in
       record {
         number = v .number;
         destinations = v .destinations;
@@ -116,7 +118,7 @@ module _ (l : Ledger) (f : Incoming) (s : Sound l) (a : Accepted l f) (b : Base 
   propose-heard : isPropose f ≡ true → Hears (paymentFor l f) (hear (paymentFor l f) (f .source .0) (f .time)) (f .source .0) (f .time .0)
   propose-heard k =
       let is = source-is k in
-      let top = group-range l s in
+      let top = group-range l (s .range) in
       let some : f .source .0 ≡ suc (f .source .0 - 1) = place (f .source .0) (is .0) in
       let within : f .source .0 ≤ l .group = is .1 in
       hears (paymentFor l f) (f .source .0) (f .time) (omega arith) (omega arith) (b .byte) (b .size)
@@ -127,7 +129,7 @@ module _ (l : Ledger) (f : Incoming) (s : Sound l) (a : Accepted l f) (b : Base 
       × (timeFrom (hear (paymentFor l f) (f .source .0) (f .time)) (l .own .0) ≡ timeFrom (paymentFor l f) (l .own .0))
   own-kept k =
       let v = propose-heard k in
-      let range = own-range l s in
+      let range = own-range l (s .range) in
       let is : l .own .0 ≡ suc (l .own .0 - 1) = place (l .own .0) (λ e. omega arith) in
       let other : suc (l .own .0 - 1) ≡ f .source .0 → ⊥ = λ e. source-is k .3 (sym e ∙ sym is) in
       let q = hear (paymentFor l f) (f .source .0) (f .time) in (

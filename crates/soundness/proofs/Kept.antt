@@ -159,10 +159,10 @@ module _ (l : Ledger) (f : Incoming) (is-sound : sound l ≡ true) (shape : Shap
       split (allHeard (heardPayment l f))
       (λ t. subst Almost (sym (heardOf-stamped l f inside t))
       (brings _ (λ w u phase n. replaced l (countFor l f) _ (placeFor l f) (inPhase 2 (heardPayment l f)) (almost l s)
-      (fits-stamped l f s shape a b within (own-range l s) few w u phase (heardClock l f) (heardPayment l f) n t))))
+      (fits-stamped l f s shape a b within (own-range l (s .range)) few w u phase (heardClock l f) (heardPayment l f) n t))))
       (λ t. subst Almost (sym (heardOf-open l f inside t))
       (brings _ (λ w u phase n. replaced l (countFor l f) _ (placeFor l f) (heardPayment l f) (almost l s)
-      (fits-open l f s shape a b within (own-range l s) few w u phase (heardClock l f) (heardPayment l f) n t))))
+      (fits-open l f s shape a b within (own-range l (s .range)) few w u phase (heardClock l f) (heardPayment l f) n t))))
 
   pub heard-shaped : Shaped (afterStamping l f)
   heard-shaped =

@@ -13,3 +13,4 @@ pub mod Fresh
 pub mod Table
 pub mod Rising
 pub mod Postings
+pub mod Taken
