@@ -14,7 +14,7 @@ use Rattle.frame.specs.Frames.{body, frameValues, notAFrame, total}
 use Rattle.payment.specs.Payments.{lastTime}
 use Rattle.held.specs.Held.{limit, placeOf}
 use Rattle.ledger.specs.State.{lawfulSetUp}
-use Rattle.ledger.specs.Sound.{sound}
+use Rattle.ledger.specs.Sound.{inRange, sound}
 use Rattle.ledger.specs.Refusals.{answerTo, firstGiven, incoming, isHeld, judged, refusals}
 use Rattle.ledger.specs.Step.{judging, placeFor, refused, step, taken}
 use Rattle.ledger.specs.declared.Incoming.{Incoming}
@@ -41,13 +41,13 @@ module _ (l : Ledger) (f : Incoming) (outgoing list : List ℕ) where
   judging-taken e = by-zero (firstGiven (judged l f)) (taken l f outgoing list) (refused l (firstGiven (judged l f)) outgoing list) e
 
 -- what the ranges of a sound state say
-pub clock-range : (l : Ledger) → sound l ≡ true → l .clock .0 ≤ lastTime
+pub clock-range : (l : Ledger) → inRange l ≡ true → l .clock .0 ≤ lastTime
 clock-range l s =
-    leb-true _ _ (and-left (leb (l .clock .0) lastTime) (leb (l .count) limit) (and-right (lawfulSetUp (l .group) (l .own .0)) _ (clauses l s .range)))
+    leb-true _ _ (and-left (leb (l .clock .0) lastTime) (leb (l .count) limit) (and-right (lawfulSetUp (l .group) (l .own .0)) _ s))
 
-pub count-range : (l : Ledger) → sound l ≡ true → l .count ≤ limit
+pub count-range : (l : Ledger) → inRange l ≡ true → l .count ≤ limit
 count-range l s =
-    leb-true _ _ (and-right (leb (l .clock .0) lastTime) (leb (l .count) limit) (and-right (lawfulSetUp (l .group) (l .own .0)) _ (clauses l s .range)))
+    leb-true _ _ (and-right (leb (l .clock .0) lastTime) (leb (l .count) limit) (and-right (lawfulSetUp (l .group) (l .own .0)) _ s))
 
 -- a frame that is taken has a place
 pub place-range : (l : Ledger) (f : Incoming) → sound l ≡ true → firstGiven (judged l f) ≡ 0 → placeFor l f < limit
@@ -57,7 +57,7 @@ place-range l f s e =
     (λ t. subst (λ n. n < limit) (sym (ap (λ b. cond b (placeOf (l .payments) (f .payment .0)) (l .count)) t)) (ltb-true _ _ t))
     (λ t. let room = none-given (judged l f) refl e 6 (omega arith) in
     let other : l .count ≡ limit → ⊥ = eqb-false _ _ (sym (and-go (eqb (l .count) limit) (ap not t)) ∙ room) in
-    let few = count-range l s in
+    let few = count-range l (clauses l s .kept .range) in
     subst (λ n. n < limit) (sym (ap (λ b. cond b (placeOf (l .payments) (f .payment .0)) (l .count)) t)) (omega arith))
 
 module _ (l : Ledger) (frame outgoing list : List ℕ) where

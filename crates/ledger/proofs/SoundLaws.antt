@@ -15,7 +15,8 @@ use Rattle.held.specs.Checked.{apart, heldAll, heldPairs, noneFree, postedBelow
 use Rattle.ledger.specs.Sound.{each, inRange, pairs, sound}
 use Rattle.ledger.specs.declared.Ledger.{Ledger}
 
-pub record Sound (l : Ledger) : Type 0 where
+-- every clause of soundness but that nothing is free to post, each by its name
+pub record Almost (l : Ledger) : Type 0 where
   pub range : inRange l ≡ true
   pub numbers : pairs l numbersDiffer ≡ true
   pub number : each l numberNotZero ≡ true
@@ -25,8 +26,11 @@ pub record Sound (l : Ledger) : Type 0 where
   pub times : pairs l timesDiffer ≡ true
   pub clock : each l (notAboveClock (l .own .0) (l .clock .0)) ≡ true
   pub phase : each l (phaseRight (l .own .0)) ≡ true
-  pub free : noneFree (l .payments) (l .own .0) ≡ true
   pub posted : postedBelow (l .payments) (l .own .0) ≡ true
+
+pub record Sound (l : Ledger) : Type 0 where
+  pub kept : Almost l
+  pub free : noneFree (l .payments) (l .own .0) ≡ true
 
 pub clauses : (l : Ledger) → sound l ≡ true → Sound l
 unfolding sound
@@ -41,29 +45,31 @@ clauses l e =
     let e₈ = and-right (each l (notAboveClock (l .own .0) (l .clock .0))) _ e₇ in
     let e₉ = and-right (each l (phaseRight (l .own .0))) _ e₈ in
     record {
-      range = and-left (inRange l) _ e;
-      numbers = and-left (pairs l numbersDiffer) _ e₁;
-      number = and-left (each l numberNotZero) _ e₂;
-      destinations = and-left (each l (lawful (l .group) (l .own .0))) _ e₃;
-      heard = and-left (each l heardRight) _ e₄;
-      unused = and-left (unusedAll (l .payments) (l .count)) _ e₅;
-      times = and-left (pairs l timesDiffer) _ e₆;
-      clock = and-left (each l (notAboveClock (l .own .0) (l .clock .0))) _ e₇;
-      phase = and-left (each l (phaseRight (l .own .0))) _ e₈;
+      kept = record {
+        range = and-left (inRange l) _ e;
+        numbers = and-left (pairs l numbersDiffer) _ e₁;
+        number = and-left (each l numberNotZero) _ e₂;
+        destinations = and-left (each l (lawful (l .group) (l .own .0))) _ e₃;
+        heard = and-left (each l heardRight) _ e₄;
+        unused = and-left (unusedAll (l .payments) (l .count)) _ e₅;
+        times = and-left (pairs l timesDiffer) _ e₆;
+        clock = and-left (each l (notAboveClock (l .own .0) (l .clock .0))) _ e₇;
+        phase = and-left (each l (phaseRight (l .own .0))) _ e₈;
+        posted = and-right (noneFree (l .payments) (l .own .0)) _ e₉;
+      };
       free = and-left (noneFree (l .payments) (l .own .0)) _ e₉;
-      posted = and-right (noneFree (l .payments) (l .own .0)) _ e₉;
     }
 
 pub sound-so : (l : Ledger) → Sound l → sound l ≡ true
 unfolding sound
 sound-so l s =
-    and-both (s .range)
-    (and-both (s .numbers)
-    (and-both (s .number)
-    (and-both (s .destinations)
-    (and-both (s .heard)
-    (and-both (s .unused)
-    (and-both (s .times) (and-both (s .clock) (and-both (s .phase) (and-both (s .free) (s .posted))))))))))
+    and-both (s .kept .range)
+    (and-both (s .kept .numbers)
+    (and-both (s .kept .number)
+    (and-both (s .kept .destinations)
+    (and-both (s .kept .heard)
+    (and-both (s .kept .unused)
+    (and-both (s .kept .times) (and-both (s .kept .clock) (and-both (s .kept .phase) (and-both (s .free) (s .kept .posted))))))))))
 
 -- what is asked of each held payment, or of each two, may be asked one thing after the other
 every-and : (n : ℕ) (a b : ℕ → Bool) → every n (λ i. a i && b i) ≡ every n a && every n b
@@ -111,10 +117,10 @@ module _ (l : Ledger) where
       ∙ ap (λ b. each l heardRight && b) (all-and (l .payments) (l .count) (notAboveClock own (l .clock .0)) (phaseRight own))))
 
   pub sound-right : Sound l → heldAll (l .payments) (l .count) (right (l .group) (l .own .0) (l .clock .0)) ≡ true
-  sound-right s = right-clauses ∙ and-both (s .number) (and-both (s .destinations) (and-both (s .heard) (and-both (s .clock) (s .phase))))
+  sound-right s = right-clauses ∙ and-both (s .kept .number) (and-both (s .kept .destinations) (and-both (s .kept .heard) (and-both (s .kept .clock) (s .kept .phase))))
 
   pub sound-apart : Sound l → heldPairs (l .payments) (l .count) apart ≡ true
-  sound-apart s = pairs-and (l .payments) (l .count) numbersDiffer timesDiffer ∙ and-both (s .numbers) (s .times)
+  sound-apart s = pairs-and (l .payments) (l .count) numbersDiffer timesDiffer ∙ and-both (s .kept .numbers) (s .kept .times)
 
   -- a check that every sound state passes is failed by no sound state
   pub not-sound : {b : Bool} → (Sound l → b ≡ true) → b ≡ false → sound l ≡ false
@@ -130,17 +136,19 @@ module _ (l : Ledger) where
       let e₄ = and-right (each l heardRight) _ e₃ in
       let a₁ = sym (pairs-and (l .payments) (l .count) numbersDiffer timesDiffer) ∙ a in
       same (sound l) (postedBelow (l .payments) (l .own .0))
-      (λ t. clauses l t .posted)
+      (λ t. clauses l t .kept .posted)
       (λ t. sound-so l record {
-        range = r;
-        numbers = and-left (pairs l numbersDiffer) (pairs l timesDiffer) a₁;
-        number = and-left (each l numberNotZero) _ e₁;
-        destinations = and-left (each l (lawful (l .group) (l .own .0))) _ e₂;
-        heard = and-left (each l heardRight) _ e₃;
-        unused = u;
-        times = and-right (pairs l numbersDiffer) (pairs l timesDiffer) a₁;
-        clock = and-left (each l (notAboveClock (l .own .0) (l .clock .0))) _ e₄;
-        phase = and-right (each l (notAboveClock (l .own .0) (l .clock .0))) _ e₄;
+        kept = record {
+          range = r;
+          numbers = and-left (pairs l numbersDiffer) (pairs l timesDiffer) a₁;
+          number = and-left (each l numberNotZero) _ e₁;
+          destinations = and-left (each l (lawful (l .group) (l .own .0))) _ e₂;
+          heard = and-left (each l heardRight) _ e₃;
+          unused = u;
+          times = and-right (pairs l numbersDiffer) (pairs l timesDiffer) a₁;
+          clock = and-left (each l (notAboveClock (l .own .0) (l .clock .0))) _ e₄;
+          phase = and-right (each l (notAboveClock (l .own .0) (l .clock .0))) _ e₄;
+          posted = t;
+        };
         free = f;
-        posted = t;
       })

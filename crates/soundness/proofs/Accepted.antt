@@ -23,7 +23,7 @@ use Rattle.ledger.specs.Step.{paymentFor, placeFor}
 use Rattle.ledger.specs.declared.Incoming.{Incoming}
 use Rattle.ledger.specs.declared.Ledger.{Ledger}
 use Rattle.ledger.specs.Sound.{each}
-use Rattle.ledger.proofs.SoundLaws.{Sound}
+use Rattle.ledger.proofs.SoundLaws.{Almost}
 use Rattle.held.proofs.FreeLaws.{behind-proposed}
 use Rattle.held.proofs.ReflectLaws.{each-at, pairs-at, posted-at, unused-at}
 use Rattle.payment.proofs.RightLaws.{has-empty, later-none, later-stamp, proposed-others, waiting-own}
@@ -113,7 +113,7 @@ module _ (l : Ledger) (f : Incoming) (n : isHeld l f ≡ false) where
       zero-one e = omega arith
 
 -- what soundness says of any two held payments
-module _ (l : Ledger) (s : Sound l) (i j : ℕ) (hi : i < limit) (hj : j < limit) (ui : i < l .count) (uj : j < l .count) (o : i ≡ j → ⊥) where
+module _ (l : Ledger) (s : Almost l) (i j : ℕ) (hi : i < limit) (hj : j < limit) (ui : i < l .count) (uj : j < l .count) (o : i ≡ j → ⊥) where
   pub apart-pairs : Apart (at (l .payments) i) (at (l .payments) j)
   apart-pairs =
       split (ltb j i)
@@ -139,7 +139,7 @@ own-below p own clock h e =
     ltb-false _ _ (sym (and-go (ltb clock (timeFrom p own)) h) ∙ not-true _ (and-left (not (heardFrom p own && ltb clock (timeFrom p own))) _ e))
 
 -- a payment that is held
-module _ (l : Ledger) (s : Sound l) (shape : Shaped l) (f : Incoming) (a : Accepted l f) (n : isHeld l f ≡ true) where
+module _ (l : Ledger) (s : Almost l) (shape : Shaped l) (f : Incoming) (a : Accepted l f) (n : isHeld l f ≡ true) where
   is-held : paymentFor l f ≡ heldOne l f
   is-held = ap (λ b. cond b (heldOne l f) (newPayment (f .payment .0) (f .destinations))) n
 
@@ -232,5 +232,5 @@ module _ (l : Ledger) (s : Sound l) (shape : Shaped l) (f : Incoming) (a : Accep
       }
 
 -- the frame's payment, held or new
-pub base : (l : Ledger) (f : Incoming) → Sound l → Shaped l → Accepted l f → Base l f
+pub base : (l : Ledger) (f : Incoming) → Almost l → Shaped l → Accepted l f → Base l f
 base l f s shape a = split (isHeld l f) (λ n. base-held l s shape f a n) (λ n. base-new l f n)

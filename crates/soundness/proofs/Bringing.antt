@@ -26,9 +26,9 @@ use Rattle.ledger.specs.Step.{inPhase, newOwnTime, paymentFor, placeFor}
 use Rattle.ledger.specs.declared.Incoming.{Incoming}
 use Rattle.ledger.specs.declared.Ledger.{Ledger}
 use Rattle.ledger.proofs.JudgeLaws.{clock-range}
-use Rattle.ledger.proofs.SoundLaws.{Sound, sound-so}
+use Rattle.ledger.proofs.SoundLaws.{Almost}
 use Rattle.soundness.proofs.Accepted.{Accepted, Base, own-below}
-use Rattle.soundness.proofs.Replacing.{almost, posted-held}
+use Rattle.soundness.proofs.Replacing.{posted-held}
 use Rattle.soundness.proofs.Taking.{Brings, own-among}
 
 stamp-below : (p : Payment) (own clock : ℕ) → hasStamp p ≡ true → notAboveClock own clock p ≡ true → stampOf p .time .0 ≤ clock
@@ -51,15 +51,15 @@ module _ (l : Ledger) (range : inRange l ≡ true) where
       let top = group-range in
       (leb-true _ _ (and-left (leb 1 (l .own .0)) _ both-own), omega arith)
 
-module _ (l : Ledger) (s : Sound l) where
+module _ (l : Ledger) (s : Almost l) where
   -- a posted payment's stamp is not above the clock
   posted-time : (j : ℕ) → j < limit → isPosted (at (l .payments) j) ≡ true → stampOf (at (l .payments) j) .time .0 ≤ l .clock .0
   posted-time j h p =
       stamp-below (at (l .payments) j) (l .own .0) (l .clock .0)
       (split (isStamped (at (l .payments) j)) (λ t. ap (λ b. b || isPosted (at (l .payments) j)) t) (λ t. or-go _ t ∙ p))
-      (each-at (l .payments) (l .count) (notAboveClock (l .own .0) (l .clock .0)) (s .clock) j h (posted-held l (almost l s) j h p))
+      (each-at (l .payments) (l .count) (notAboveClock (l .own .0) (l .clock .0)) (s .clock) j h (posted-held l s j h p))
 
-module _ (l : Ledger) (f : Incoming) (s : Sound l) (a : Accepted l f) (b : Base l f) where
+module _ (l : Ledger) (f : Incoming) (s : Almost l) (a : Accepted l f) (b : Base l f) where
   abbrev pub multicasted : Payment
   multicasted = inPhase proposed (hear (paymentFor l f) (l .own .0) (newOwnTime l))
 
@@ -79,7 +79,7 @@ module _ (l : Ledger) (f : Incoming) (s : Sound l) (a : Accepted l f) (b : Base 
 
   clock-left : isPropose f ≡ false → l .clock .0 < lastTime
   clock-left k =
-      let top = clock-range l (sound-so l s) in
+      let top = clock-range l (s .range) in
       let other : l .clock .0 ≡ lastTime → ⊥ = eqb-false _ _ (sym (and-go (eqb (l .clock .0) lastTime) (ap not k)) ∙ a .not-spent) in
       omega arith
 
@@ -159,7 +159,7 @@ module _ (l : Ledger) (f : Incoming) (s : Sound l) (a : Accepted l f) (b : Base 
         own-time = λ e. subst (λ n. n ≤ l .clock .0) (sym (own .1)) (b .own-time (sym (own .0) ∙ e));
         own-late = λ e j h p. subst (λ n. stampOf (at (l .payments) j) .time .0 < n) (sym (own .1)) (b .posted j h p (phase-own (sym (own .0) ∙ e)));
         later = le-refl _;
-        in-time = clock-range l (sound-so l s);
+        in-time = clock-range l (s .range);
       }
     where
       phase-own : heardFrom (paymentFor l f) (l .own .0) ≡ true → paymentFor l f .phase ≡ 1

@@ -37,18 +37,20 @@ module _ (group own : ℕ) where
   pub fresh-sound : lawfulSetUp group own ≡ true → sound (fresh group own) ≡ true
   fresh-sound g =
       sound-so (fresh group own) record {
-        range = and-both g refl;
-        numbers = no-pair numbersDiffer;
-        number = no-payment numberNotZero;
-        destinations = no-payment (lawful group own);
-        heard = no-payment heardRight;
-        unused = unused-so (fresh group own .payments) 0 (λ i h u. ap unused (at-empty i h) ∙ all-zero);
-        times = no-pair timesDiffer;
-        clock = no-payment (notAboveClock own 0);
-        phase = no-payment (phaseRight own);
+        kept = record {
+          range = and-both g refl;
+          numbers = no-pair numbersDiffer;
+          number = no-payment numberNotZero;
+          destinations = no-payment (lawful group own);
+          heard = no-payment heardRight;
+          unused = unused-so (fresh group own .payments) 0 (λ i h u. ap unused (at-empty i h) ∙ all-zero);
+          times = no-pair timesDiffer;
+          clock = no-payment (notAboveClock own 0);
+          phase = no-payment (phaseRight own);
+          posted = posted-so (fresh group own .payments) own (λ i j h k p. both p (ap isPosted (at-empty i h)));
+        };
         free = none-so (fresh group own .payments) own
             (λ i h. free-other (fresh group own .payments) own i (λ e. let z = ap (λ p. p .phase) (at-empty i h) in omega (arith, z, e)));
-        posted = posted-so (fresh group own .payments) own (λ i j h k p. both p (ap isPosted (at-empty i h)));
       }
 
   pub fresh-shaped : Shaped (fresh group own)
@@ -61,4 +63,4 @@ module _ (group own : ℕ) where
 
 -- the all-zero state has no group
 pub nothing-unsound : sound (fresh 0 0) ≡ false
-nothing-unsound = split (sound (fresh 0 0)) (λ t. both (clauses (fresh 0 0) t .range) refl) (λ t. t)
+nothing-unsound = split (sound (fresh 0 0)) (λ t. both (clauses (fresh 0 0) t .kept .range) refl) (λ t. t)

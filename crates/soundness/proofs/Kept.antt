@@ -21,12 +21,12 @@ use Rattle.ledger.specs.Step.{countFor, afterStamping, inPhase, multicastRule, 
 use Rattle.ledger.specs.declared.Incoming.{Incoming}
 use Rattle.ledger.specs.declared.Ledger.{Ledger}
 use Rattle.ledger.proofs.JudgeLaws.{count-range, place-range}
-use Rattle.ledger.proofs.SoundLaws.{Sound, clauses, sound-so}
+use Rattle.ledger.proofs.SoundLaws.{Almost, clauses, sound-so}
 use Rattle.ledger.proofs.StepLaws.{stamp-not, stamp-now}
 use Rattle.soundness.specs.Shaped.{Shaped}
 use Rattle.soundness.proofs.Accepted.{Accepted, Base, accepted, base}
 use Rattle.soundness.proofs.Bringing.{brings-multicast, brings-propose, own-range}
-use Rattle.soundness.proofs.Replacing.{Almost, almost, by-place, replaced, with-payment}
+use Rattle.soundness.proofs.Replacing.{by-place, replaced, with-payment}
 use Rattle.soundness.proofs.Settling.{settles}
 use Rattle.soundness.proofs.Taking.{Brings, fits-open, fits-stamped}
 
@@ -125,14 +125,14 @@ count-few l f h =
 
 -- a frame that no row refuses
 module _ (l : Ledger) (f : Incoming) (is-sound : sound l ≡ true) (shape : Shaped l) (e : firstGiven (judged l f) ≡ 0) where
-  s : Sound l
-  s = clauses l is-sound
+  s : Almost l
+  s = clauses l is-sound .kept
 
   a : Accepted l f
   a = accepted l f e
 
   b : Base l f
-  b = base l f (clauses l is-sound) shape (accepted l f e)
+  b = base l f (clauses l is-sound .kept) shape (accepted l f e)
 
   within : placeFor l f < limit
   within = place-range l f is-sound e
@@ -152,16 +152,16 @@ module _ (l : Ledger) (f : Incoming) (is-sound : sound l ≡ true) (shape : Shap
       (sym k) (brings-multicast l f s a b k)))
 
   few : countFor l f ≤ limit
-  few = count-few l f (count-range l is-sound) within
+  few = count-few l f (count-range l (s .range)) within
 
   pub heard-almost : Almost (afterStamping l f)
   heard-almost =
       split (allHeard (heardPayment l f))
       (λ t. subst Almost (sym (heardOf-stamped l f inside t))
-      (brings _ (λ w u phase n. replaced l (countFor l f) _ (placeFor l f) (inPhase 2 (heardPayment l f)) (almost l s)
+      (brings _ (λ w u phase n. replaced l (countFor l f) _ (placeFor l f) (inPhase 2 (heardPayment l f)) s
       (fits-stamped l f s shape a b within (own-range l (s .range)) few w u phase (heardClock l f) (heardPayment l f) n t))))
       (λ t. subst Almost (sym (heardOf-open l f inside t))
-      (brings _ (λ w u phase n. replaced l (countFor l f) _ (placeFor l f) (heardPayment l f) (almost l s)
+      (brings _ (λ w u phase n. replaced l (countFor l f) _ (placeFor l f) (heardPayment l f) s
       (fits-open l f s shape a b within (own-range l (s .range)) few w u phase (heardClock l f) (heardPayment l f) n t))))
 
   pub heard-shaped : Shaped (afterStamping l f)

@@ -11,7 +11,7 @@ use borrow.Author.Tests.{eq-eqb, eqb-false, eqb-true, lt-ltb, ltb-false, ltb-tru
 use Rattle.common.proofs.TestLaws.{split}
 use Rattle.payment.specs.Ledgers.{has}
 use Rattle.payment.specs.Payments.{heardFrom, isPosted, stampOf, timeFrom}
-use Rattle.payment.specs.Right.{lawful, timesDiffer, phaseRight}
+use Rattle.payment.specs.Right.{lawful, phaseRight}
 use Rattle.payment.specs.Stamps.{below}
 use Rattle.payment.specs.declared.Payment.{Payment}
 use Rattle.payment.proofs.GreatestLaws.{greatest-above, greatest-ledger, greatest-none}
@@ -22,12 +22,13 @@ use Rattle.payment.proofs.StampLaws.{below-rank, rank}
 use Rattle.held.specs.Held.{at, limit}
 use Rattle.held.specs.Posting.{before, isFree, toPost}
 use Rattle.held.proofs.PostLaws.{free-stamped}
-use Rattle.held.proofs.ReflectLaws.{each-at, pairs-at, unused-at}
+use Rattle.held.proofs.ReflectLaws.{each-at, unused-at}
 use Rattle.ledger.specs.declared.Ledger.{Ledger}
-use Rattle.soundness.proofs.Apart.{Apart, apart-at, apart-sym}
-use Rattle.soundness.proofs.Replacing.{Almost}
+use Rattle.soundness.proofs.Apart.{Apart}
+use Rattle.ledger.proofs.SoundLaws.{Almost}
+use Rattle.soundness.proofs.Accepted.{apart-pairs}
+use Rattle.soundness.proofs.Replacing.{unused-phase}
 use Rattle.soundness.proofs.Rising.{All, Has, Rising, sorted-all, sorted-has, sorted-rising}
-use Rattle.soundness.proofs.Settling.{unused-phase}
 use Rattle.soundness.proofs.Taking.{own-among}
 
 stamp-small : (p : Payment) → stampOf p .ledger .0 ≤ 8
@@ -90,14 +91,6 @@ module _ (l : Ledger) (s : Almost l) (range : (1 ≤ l .own .0) × (l .own .0 �
       ∙ own-among (l .group) (l .own .0) (at (l .payments) i .destinations)
       (not-true _ (each-at (l .payments) (l .count) (lawful (l .group) (l .own .0)) (s .destinations) i h u))
 
-  apart-held : (i j : ℕ) → i < limit → j < limit → i < l .count → j < l .count → (i ≡ j → ⊥) → Apart (at (l .payments) i) (at (l .payments) j)
-  apart-held i j hi hj ui uj o =
-      split (ltb j i)
-      (λ t. apart-at (at (l .payments) i) (at (l .payments) j) (pairs-at (l .payments) (l .count) timesDiffer (s .times) i j hi ui (ltb-true _ _ t)))
-      (λ t. let above = ltb-false j i t in
-      apart-sym (at (l .payments) j) (at (l .payments) i)
-      (apart-at (at (l .payments) j) (at (l .payments) i) (pairs-at (l .payments) (l .count) timesDiffer (s .times) j i hj uj (omega arith))))
-
   -- two stamped payments are in an order
   pub free-ordered : (i j : ℕ) → i < limit → j < limit → isFree (l .payments) (l .own .0) i ≡ true → isFree (l .payments) (l .own .0) j ≡ true
       → (i ≡ j → ⊥) → before (l .payments) i j ≡ false → before (l .payments) j i ≡ true
@@ -108,7 +101,7 @@ module _ (l : Ledger) (s : Almost l) (range : (1 ≤ l .own .0) × (l .own .0 �
       ltb-false _ _ (sym (below-stamps (at (l .payments) i) (at (l .payments) j)) ∙ b) in
       let differ : rank (stampOf (at (l .payments) i)) ≡ rank (stampOf (at (l .payments) j)) → ⊥ =
       stamps-differ (at (l .payments) i) (at (l .payments) j) (l .own .0) (range .0) (range .1) (stamped-own i hi pi) (stamped-own j hj pj)
-      (apart-held i j hi hj (stamped-held i hi pi) (stamped-held j hj pj) o) in
+      (apart-pairs l s i j hi hj (stamped-held i hi pi) (stamped-held j hj pj) o) in
       below-stamps (at (l .payments) j) (at (l .payments) i) ∙ lt-ltb _ _ (less (rank (stampOf (at (l .payments) j))) (rank (stampOf (at (l .payments) i))) up (λ e. differ (sym e)))
     where
       less : (a b : ℕ) → a ≤ b → (a ≡ b → ⊥) → a < b

@@ -19,46 +19,20 @@ use Rattle.held.proofs.ReflectLaws.{each-at, each-so, pairs-at, pairs-so, poste
 use Rattle.ledger.specs.State.{lawfulSetUp}
 use Rattle.ledger.specs.Sound.{each, inRange, pairs}
 use Rattle.ledger.specs.declared.Ledger.{Ledger}
-use Rattle.ledger.proofs.SoundLaws.{Sound}
-
--- every clause of soundness but that nothing is free to post
-pub record Almost (l : Ledger) : Type 0 where
-  pub range : inRange l ≡ true
-  pub numbers : pairs l numbersDiffer ≡ true
-  pub number : each l numberNotZero ≡ true
-  pub destinations : each l (lawful (l .group) (l .own .0)) ≡ true
-  pub heard : each l heardRight ≡ true
-  pub unused : unusedAll (l .payments) (l .count) ≡ true
-  pub times : pairs l timesDiffer ≡ true
-  pub clock : each l (notAboveClock (l .own .0) (l .clock .0)) ≡ true
-  pub phase : each l (phaseRight (l .own .0)) ≡ true
-  pub posted : postedBelow (l .payments) (l .own .0) ≡ true
-
-pub almost : (l : Ledger) → Sound l → Almost l
-almost l s =
-    record {
-      range = s .range;
-      numbers = s .numbers;
-      number = s .number;
-      destinations = s .destinations;
-      heard = s .heard;
-      unused = s .unused;
-      times = s .times;
-      clock = s .clock;
-      phase = s .phase;
-      posted = s .posted;
-    }
+use Rattle.ledger.proofs.SoundLaws.{Almost}
 
 -- by whether two places are the same
 pub by-place : {A : Type 0} (j i : ℕ) → (j ≡ i → A) → ((j ≡ i → ⊥) → A) → A
 by-place j i f g = split (eqb j i) (λ t. f (eqb-true j i t)) (λ t. g (eqb-false j i t))
 
--- an unused place is not posted
-unused-unposted : (p : Payment) → unused p ≡ true → isPosted p ≡ false
+-- an unused place is waiting, and so is not posted
+pub unused-phase : (p : Payment) → unused p ≡ true → p .phase ≡ 0
 unfolding unused
-unused-unposted p e =
-    let phase : p .phase ≡ 0 = eqb-true _ _ (and-left (eqb (p .phase) 0) _ (and-right (eqb (p .heard) 0) _ (and-right (eqb (p .destinations) 0) _ (and-right (eqb (p .number .0) 0) _ e)))) in
-    ne-eqb (p .phase) 3 (λ q. omega (arith, phase, q))
+unused-phase p e =
+    eqb-true _ _ (and-left (eqb (p .phase) 0) _ (and-right (eqb (p .heard) 0) _ (and-right (eqb (p .destinations) 0) _ (and-right (eqb (p .number .0) 0) _ e))))
+
+unused-unposted : (p : Payment) → unused p ≡ true → isPosted p ≡ false
+unused-unposted p e = let phase = unused-phase p e in ne-eqb (p .phase) 3 (λ q. omega (arith, phase, q))
 
 -- what is not above a clock is not above a later one
 not-less : (a b c : ℕ) → b ≤ c → ltb b a ≡ false → ltb c a ≡ false

@@ -25,8 +25,8 @@ use Rattle.held.proofs.PostLaws.{free-stamped}
 use Rattle.held.proofs.ReflectLaws.{each-at, each-so, none-so, pairs-at, pairs-so, posted-at, posted-so, unused-at, unused-so}
 use Rattle.ledger.specs.Sound.{each, pairs}
 use Rattle.ledger.specs.declared.Ledger.{Ledger}
-use Rattle.ledger.proofs.SoundLaws.{Sound}
-use Rattle.soundness.proofs.Replacing.{Almost}
+use Rattle.ledger.proofs.SoundLaws.{Almost, Sound}
+use Rattle.soundness.proofs.Replacing.{unused-phase}
 
 -- what a free payment is, and what one that is not free is
 module _ (payments : List Payment) (own : ℕ) where
@@ -63,11 +63,6 @@ phaseRight-posted own p h e =
     later-stamp own (nowPosted p) (λ z. omega arith) (λ z. omega arith) refl
     ∙ sym (later-stamp own p (λ z. omega arith) (λ z. omega arith) (ap (λ b. b || isPosted p) (eq-eqb _ _ h)))
     ∙ e
-
-pub unused-phase : (p : Payment) → unused p ≡ true → p .phase ≡ 0
-unfolding unused
-unused-phase p e =
-    eqb-true _ _ (and-left (eqb (p .phase) 0) _ (and-right (eqb (p .heard) 0) _ (and-right (eqb (p .destinations) 0) _ (and-right (eqb (p .number .0) 0) _ e))))
 
 module _ (l : Ledger) (s : Almost l) where
   abbrev settled : Ledger
@@ -192,15 +187,17 @@ module _ (l : Ledger) (s : Almost l) where
   pub settles : Sound settled
   settles =
       record {
-        range = s .range;
-        numbers = numbers-after;
-        number = each-after numberNotZero (s .number) (λ p h e. e);
-        destinations = each-after (lawful (l .group) (l .own .0)) (s .destinations) (λ p h e. e);
-        heard = each-after heardRight (s .heard) (λ p h e. heardRight-posted p e);
-        unused = unused-after;
-        times = times-after;
-        clock = each-after (notAboveClock (l .own .0) (l .clock .0)) (s .clock) (notAbove-posted (l .own .0) (l .clock .0));
-        phase = each-after (phaseRight (l .own .0)) (s .phase) (phaseRight-posted (l .own .0));
+        kept = record {
+          range = s .range;
+          numbers = numbers-after;
+          number = each-after numberNotZero (s .number) (λ p h e. e);
+          destinations = each-after (lawful (l .group) (l .own .0)) (s .destinations) (λ p h e. e);
+          heard = each-after heardRight (s .heard) (λ p h e. heardRight-posted p e);
+          unused = unused-after;
+          times = times-after;
+          clock = each-after (notAboveClock (l .own .0) (l .clock .0)) (s .clock) (notAbove-posted (l .own .0) (l .clock .0));
+          phase = each-after (phaseRight (l .own .0)) (s .phase) (phaseRight-posted (l .own .0));
+          posted = posted-after;
+        };
         free = none-after;
-        posted = posted-after;
       }

@@ -1,20 +1,17 @@
 -- What a taken step does, in the words of document 01: recipients and copies, postings, and nothing else.
 -- Assumes nothing.
-use Prim.Native.Nat.{ℕ, suc, _<_, _≤_}
+use Prim.Native.Nat.{ℕ, _<_}
 use mathlib.Core.Path.{_≡_, refl, ap, sym, _∙_, subst}
-use mathlib.Core.List.{List, map, _++_}
-use mathlib.Core.Bool.{Bool, true, false, not, _&&_}
+use mathlib.Core.List.{List, _++_}
+use mathlib.Core.Bool.{true}
 use lib.ListN.{drop, length, length-map}
 use Rattle.frame.specs.Frames.{frameValues}
 use Rattle.payment.specs.Ledgers.{howMany}
-use Rattle.payment.specs.declared.Payment.{Payment}
 use Rattle.held.specs.Held.{at, limit}
 use Rattle.held.specs.Posting.{before, isFree, numbers, toPost}
 use Rattle.held.specs.Checked.{noneFree}
-use Rattle.ledger.specs.Sound.{sound}
 use Rattle.ledger.specs.Refusals.{answerTo, incoming}
-use Rattle.ledger.specs.Step.{Outcome, afterStamping, postRule, recipientsOf, step, taken}
-use Rattle.ledger.specs.declared.Incoming.{Incoming}
+use Rattle.ledger.specs.Step.{Outcome, afterStamping, postRule, step}
 use Rattle.ledger.specs.declared.Ledger.{Ledger}
 use Rattle.ledger.proofs.SoundLaws.{clauses}
 use Rattle.soundness.specs.Shaped.{Shaped}
@@ -22,7 +19,7 @@ use Rattle.soundness.proofs.Bringing.{own-range}
 use Rattle.soundness.proofs.Kept.{heard-almost, taken-sound}
 use Rattle.soundness.proofs.Postings.{posting-all, posting-free, posting-rising}
 use Rattle.soundness.proofs.Rising.{All, Has, Rising}
-use Rattle.soundness.proofs.Steps.{Taken, is-taken}
+use Rattle.soundness.proofs.Steps.{is-taken}
 
 -- all that rule 4 says of a step that is taken; `after` is the ledger when the payment has been heard, and stamped if all were
 pub record Posts (after : Ledger) (list : List ℕ) (o : Outcome) : Type 0 where

@@ -22,7 +22,7 @@ use Rattle.ledger.specs.Refusals.{isHeld}
 use Rattle.ledger.specs.Step.{countFor, inPhase, paymentFor, placeFor}
 use Rattle.ledger.specs.declared.Incoming.{Incoming}
 use Rattle.ledger.specs.declared.Ledger.{Ledger}
-use Rattle.ledger.proofs.SoundLaws.{Sound}
+use Rattle.ledger.proofs.SoundLaws.{Almost}
 use Rattle.soundness.specs.Shaped.{Shaped}
 use Rattle.soundness.proofs.Apart.{Apart, apart-so, apart-sym}
 use Rattle.soundness.proofs.Accepted.{Accepted, Base, place-used}
@@ -42,13 +42,6 @@ pub record Brings (l : Ledger) (f : Incoming) (w t phase clock : ℕ) (q : Payme
       → stampOf (at (l .payments) j) .time .0 < timeFrom q (l .own .0)
   pub later : l .clock .0 ≤ clock
   pub in-time : clock ≤ lastTime
-
--- stamped, once every destination is heard
-abbrev pub finished : Payment → Payment
-finished p = cond (allHeard p) (inPhase 2 p) p
-
-abbrev pub clockAfter : ℕ → Payment → ℕ
-clockAfter clock p = cond (allHeard p) (max clock (stampOf p .time .0)) clock
 
 -- a byte with a ledger in it is not 0
 has-some : (d k : ℕ) → has d k ≡ true → d ≡ 0 → ⊥
@@ -71,7 +64,7 @@ not-above-so p own clock f g = and-both (side (heardFrom p own) (timeFrom p own)
     side false t h = refl
 
 -- the place of the frame's payment among the others
-module _ (l : Ledger) (s : Sound l) (shape : Shaped l) (f : Incoming) (a : Accepted l f) where
+module _ (l : Ledger) (s : Almost l) (shape : Shaped l) (f : Incoming) (a : Accepted l f) where
   place-inside : placeFor l f < countFor l f
   place-inside =
       split (isHeld l f)
@@ -94,7 +87,7 @@ pub own-among : (group own destinations : ℕ) → unlawful group own destinatio
 unfolding unlawful
 own-among group own destinations e = not-false _ (or-right (leb (2 ^ group) destinations) _ (or-right (eqb destinations 0) _ e))
 
-module _ (l : Ledger) (f : Incoming) (s : Sound l) (shape : Shaped l) (a : Accepted l f) (b : Base l f)
+module _ (l : Ledger) (f : Incoming) (s : Almost l) (shape : Shaped l) (a : Accepted l f) (b : Base l f)
     (place-range : placeFor l f < limit) (group : (1 ≤ l .own .0) × (l .own .0 ≤ 8)) (few : countFor l f ≤ limit)
     (w t phase clock : ℕ) (q : Payment) (n : Brings l f w t phase clock q) where
   right : heardRight q ≡ true

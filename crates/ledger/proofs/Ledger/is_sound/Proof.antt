@@ -5,7 +5,7 @@ use Rattle.ledger.proofs.Ledger.is_sound.Statement.{statement}
 use Rattle.ledger.proofs.Ledger.is_sound.Tie as tie
 
 returns : tie.Need-returns
-returns c = sym (not-sound (c .before .before .before .args .self) (λ s. s .range) (sym (c .before .in-range .ensures) ∙ c .if1 .left))
+returns c = sym (not-sound (c .before .before .before .args .self) (λ s. s .kept .range) (sym (c .before .in-range .ensures) ∙ c .if1 .left))
 
 returns-2 : tie.Need-returns-2
 returns-2 c = sym (not-sound (c .before .before .before .before .before .args .self) (sound-right (c .before .before .before .before .before .args .self)) (sym (c .before .all-right .ensures) ∙ c .if2 .left))
@@ -14,7 +14,7 @@ returns-3 : tie.Need-returns-3
 returns-3 c = sym (not-sound (c .before .before .before .before .before .before .before .args .self) (sound-apart (c .before .before .before .before .before .before .before .args .self)) (sym (c .before .all-apart .ensures) ∙ c .if3 .left))
 
 returns-4 : tie.Need-returns-4
-returns-4 c = sym (not-sound (c .before .before .before .before .before .before .before .before .before .args .self) (λ s. s .unused) (sym (c .before .rest-unused .ensures) ∙ c .if4 .left))
+returns-4 c = sym (not-sound (c .before .before .before .before .before .before .before .before .before .args .self) (λ s. s .kept .unused) (sym (c .before .rest-unused .ensures) ∙ c .if4 .left))
 
 returns-5 : tie.Need-returns-5
 returns-5 c = sym (not-sound (c .before .before .before .before .before .before .before .before .before .before .before .args .self) (λ s. s .free) (sym (c .before .none-free .ensures) ∙ c .if5 .left))

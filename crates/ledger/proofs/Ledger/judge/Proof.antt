@@ -1,4 +1,5 @@
 use mathlib.Core.Path.{ap, sym, _∙_}
+use Rattle.ledger.proofs.SoundLaws.{clauses}
 use Rattle.ledger.proofs.JudgeLaws.{clock-range, count-range, judging-refused, judging-taken, place-range}
 use Rattle.ledger.specs.Step.{outcome}
 use denote.Ref.{now}
@@ -15,7 +16,8 @@ returns c =
 take-requires : tie.Need-take-requires
 take-requires c κs =
     let a = c .before .before .before .before .before .before .before .before .args in
-    (c .before .before .before .before .find .ensures, count-range (a .self) (c .before .before .before .before .before .before .before .before .pre .0), place-range (a .self) (a .f) (c .before .before .before .before .before .before .before .before .pre .0) (sym (c .before .before .before .refusal .ensures) ∙ c .before .before .if1 .left), clock-range (a .self) (c .before .before .before .before .before .before .before .before .pre .0), c .before .before .before .before .before .before .before .before .pre .1)
+    let range = clauses (a .self) (c .before .before .before .before .before .before .before .before .pre .0) .kept .range in
+    (c .before .before .before .before .find .ensures, count-range (a .self) range, place-range (a .self) (a .f) (c .before .before .before .before .before .before .before .before .pre .0) (sym (c .before .before .before .refusal .ensures) ∙ c .before .before .if1 .left), clock-range (a .self) range, c .before .before .before .before .before .before .before .before .pre .1)
 
 returns-2 : tie.Need-returns-2
 returns-2 c =
