@@ -1,0 +1,3 @@
+-- The proofs of the worked cases.
+-- Assumes nothing.
+pub mod Table
