@@ -42,7 +42,7 @@ pub notAFrame-length : (bs : List ℕ) (k : ℕ) → getD bs 0 0 ≡ k → (leng
 unfolding notAFrame
 notAFrame-length bs k e h = simp (e, ne-eqb _ _ h, or-true)
 
-notAFrame-whole : (bs : List ℕ) (k : ℕ) → getD bs 0 0 ≡ k → known table k ≡ true → length bs ≡ total k → notAFrame bs ≡ false
+pub notAFrame-whole : (bs : List ℕ) (k : ℕ) → getD bs 0 0 ≡ k → known table k ≡ true → length bs ≡ total k → notAFrame bs ≡ false
 unfolding notAFrame
 notAFrame-whole bs k e h l = simp (e, h, eq-eqb _ _ l, ne-eqb (length bs) 0 (λ z. omega arith))
 

@@ -3,7 +3,7 @@
 use Prim.Native.Nat.{ℕ, suc, _^_, _<_, _≤_}
 use mathlib.Core.Path.{_≡_, refl, ap, ap₂, sym, _∙_}
 use mathlib.Core.List.{List, [], _∷_, _++_}
-use mathlib.Core.Bool.{true}
+use mathlib.Core.Bool.{true, false}
 use native.Mathlib.Omega.{arith}
 use lib.ListN.{length, take, drop, length-take, length-drop, take-append-drop}
 use lib.Seq.{take-at, drop-at}
@@ -16,7 +16,7 @@ use Rattle.frame.specs.declared.Frame.{Frame}
 use Rattle.frame.specs.declared.Frame.the-variants.{Multicast, Propose}
 use Rattle.frame.specs.declared.ReadAnswer.the-variants.{Accepted}
 use Rattle.frame.proofs.DigitLaws.{Bytes, bytes-drop, bytes-take, bytesOf-numberOf, length-bytesOf, numberOf-kept}
-use Rattle.frame.proofs.FrameLaws.{length-frameBytes, notAFrame-exact, reading-refused, reading-taken, reading-whole, writing-fits, writing-short}
+use Rattle.frame.proofs.FrameLaws.{length-frameBytes, notAFrame-exact, notAFrame-whole, reading-refused, reading-taken, reading-whole, writing-fits, writing-short}
 
 fitting-length : (ws vs : List ℕ) → fitting ws vs ≡ true → length vs ≡ length ws
 unfolding fitting
@@ -101,3 +101,11 @@ read-written bytes buffer frame h r l =
 pub totals : (total 1 ≡ 6) × (total 2 ≡ 9)
 unfolding body sum
 totals = (refl, refl)
+
+-- the bytes of a frame of a known kind whose numbers have room are read as that frame
+pub bytes-read : (v : Values) → known table (v .kind) ≡ true → fitting (body table (v .kind)) (v .numbers) ≡ true
+    → (notAFrame (frameBytes v) ≡ false) × (frameValues (frameBytes v) ≡ v)
+bytes-read v k f =
+    let size = length-frameBytes v (fitting-length (body table (v .kind)) (v .numbers) f) in
+    let again = unpack-pack (body table (v .kind)) (v .numbers) f in
+    (notAFrame-whole (frameBytes v) (v .kind) refl k size, ap (λ ns. record { kind = v .kind; numbers = ns }) again)

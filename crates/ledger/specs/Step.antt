@@ -61,8 +61,8 @@ proposeRule l f = keeping l f (l .clock) (hear (paymentFor l f) (f .source .0) (
 abbrev pub afterHearing : Ledger → Incoming → Ledger
 afterHearing l f = cond (isPropose f) (proposeRule l f) (multicastRule l f)
 
--- rule 3 (a stamped or posted payment never comes here: its frames answer 8 or 9): once every destination of the payment is heard, it is stamped with the greatest proposal, and the clock becomes the
--- larger of itself and the stamp's time
+-- rule 3: once every destination of the payment is heard, it is stamped with the greatest proposal, and the clock becomes the
+-- larger of itself and the stamp's time (a payment stamped before never comes here: its frames answer 8 or 9)
 unfoldable pub stampRule : Ledger → ℕ → Ledger
 stampRule l i =
     let p = at (l .payments) i in

@@ -124,7 +124,7 @@ module _ (l : Ledger) (f : Incoming) (s : Almost l) (a : Accepted l f) (b : Base
       hears (paymentFor l f) (f .source .0) (f .time) (omega arith) (omega arith) (b .byte) (b .size)
 
   -- this ledger's own time is left as it was
-  own-kept : (k : isPropose f ≡ true)
+  pub own-kept : (k : isPropose f ≡ true)
       → (heardFrom (hear (paymentFor l f) (f .source .0) (f .time)) (l .own .0) ≡ heardFrom (paymentFor l f) (l .own .0))
       × (timeFrom (hear (paymentFor l f) (f .source .0) (f .time)) (l .own .0) ≡ timeFrom (paymentFor l f) (l .own .0))
   own-kept k =

@@ -37,6 +37,16 @@ heardPayment l f = cond (isPropose f) (hear (paymentFor l f) (f .source .0) (f .
 abbrev pub heardClock : Ledger → Incoming → ℕ
 heardClock l f = cond (isPropose f) (l .clock .0) (l .clock .0 + 1)
 
+-- the ledger that is heard by rules 1 and 2, its time, and the payment's phase then
+abbrev pub speaker : Ledger → Incoming → ℕ
+speaker l f = cond (isPropose f) (f .source .0) (l .own .0)
+
+abbrev pub spokenTime : Ledger → Incoming → ℕ
+spokenTime l f = cond (isPropose f) (f .time .0) (l .clock .0 + 1)
+
+abbrev heardPhase : Ledger → Incoming → ℕ
+heardPhase l f = cond (isPropose f) (paymentFor l f .phase) 1
+
 received-form : (l : Ledger) (f : Incoming) → afterHearing l f ≡ with-payment l (countFor l f) (record { 0 = heardClock l f }) (placeFor l f) (heardPayment l f)
 unfolding multicastRule proposeRule
 received-form l f = go (isPropose f)
@@ -140,16 +150,18 @@ module _ (l : Ledger) (f : Incoming) (is-sound : sound l ≡ true) (shape : Shap
   inside : placeFor l f < length (l .payments)
   inside = subst (λ n. placeFor l f < n) (sym (shape .places)) (place-range l f is-sound e)
 
+  -- what a frame brings that is a PROPOSE, or is not
+  abbrev of-kind : Bool → Type 0
+  of-kind c =
+      Brings l f (cond c (f .source .0) (l .own .0)) (cond c (f .time .0) (l .clock .0 + 1)) (cond c (paymentFor l f .phase) 1) (cond c (l .clock .0) (l .clock .0 + 1))
+      (cond c (hear (paymentFor l f) (f .source .0) (f .time)) (inPhase 1 (hear (paymentFor l f) (l .own .0) (newOwnTime l))))
+
   -- what the frame brings, whichever kind it is
-  pub brings : (A : Type 0) → ((w t phase : ℕ) → Brings l f w t phase (heardClock l f) (heardPayment l f) → A) → A
-  brings A g =
-      split (isPropose f)
-      (λ k. g (f .source .0) (f .time .0) (paymentFor l f .phase)
-      (subst (λ c. Brings l f (f .source .0) (f .time .0) (paymentFor l f .phase) (cond c (l .clock .0) (l .clock .0 + 1)) (cond c (hear (paymentFor l f) (f .source .0) (f .time)) (inPhase 1 (hear (paymentFor l f) (l .own .0) (newOwnTime l)))))
-      (sym k) (brings-propose l f s a b k)))
-      (λ k. g (l .own .0) (l .clock .0 + 1) 1
-      (subst (λ c. Brings l f (l .own .0) (l .clock .0 + 1) 1 (cond c (l .clock .0) (l .clock .0 + 1)) (cond c (hear (paymentFor l f) (f .source .0) (f .time)) (inPhase 1 (hear (paymentFor l f) (l .own .0) (newOwnTime l)))))
-      (sym k) (brings-multicast l f s a b k)))
+  pub brings : Brings l f (speaker l f) (spokenTime l f) (heardPhase l f) (heardClock l f) (heardPayment l f)
+  brings = split (isPropose f) (λ k. whichever (sym k) (brings-propose l f s a b k)) (λ k. whichever (sym k) (brings-multicast l f s a b k))
+    where
+      whichever : {x y : Bool} → x ≡ y → of-kind x → of-kind y
+      whichever q = subst of-kind q
 
   few : countFor l f ≤ limit
   few = count-few l f (count-range l (s .range)) within
@@ -158,19 +170,19 @@ module _ (l : Ledger) (f : Incoming) (is-sound : sound l ≡ true) (shape : Shap
   heard-almost =
       split (allHeard (heardPayment l f))
       (λ t. subst Almost (sym (heardOf-stamped l f inside t))
-      (brings _ (λ w u phase n. replaced l (countFor l f) _ (placeFor l f) (inPhase 2 (heardPayment l f)) s
-      (fits-stamped l f s shape a b within (own-range l (s .range)) few w u phase (heardClock l f) (heardPayment l f) n t))))
+      (replaced l (countFor l f) _ (placeFor l f) (inPhase 2 (heardPayment l f)) s
+      (fits-stamped l f s shape a b within (own-range l (s .range)) few (speaker l f) (spokenTime l f) (heardPhase l f) (heardClock l f) (heardPayment l f) brings t)))
       (λ t. subst Almost (sym (heardOf-open l f inside t))
-      (brings _ (λ w u phase n. replaced l (countFor l f) _ (placeFor l f) (heardPayment l f) s
-      (fits-open l f s shape a b within (own-range l (s .range)) few w u phase (heardClock l f) (heardPayment l f) n t))))
+      (replaced l (countFor l f) _ (placeFor l f) (heardPayment l f) s
+      (fits-open l f s shape a b within (own-range l (s .range)) few (speaker l f) (spokenTime l f) (heardPhase l f) (heardClock l f) (heardPayment l f) brings t)))
 
   pub heard-shaped : Shaped (afterStamping l f)
   heard-shaped =
       split (allHeard (heardPayment l f))
       (λ t. subst Shaped (sym (heardOf-stamped l f inside t))
-      (brings _ (λ w u phase n. shaped-with l (countFor l f) _ (placeFor l f) (inPhase 2 (heardPayment l f)) shape within (n .heard .size) (n .heard .byte))))
+      (shaped-with l (countFor l f) _ (placeFor l f) (inPhase 2 (heardPayment l f)) shape within (brings .heard .size) (brings .heard .byte)))
       (λ t. subst Shaped (sym (heardOf-open l f inside t))
-      (brings _ (λ w u phase n. shaped-with l (countFor l f) _ (placeFor l f) (heardPayment l f) shape within (n .heard .size) (n .heard .byte))))
+      (shaped-with l (countFor l f) _ (placeFor l f) (heardPayment l f) shape within (brings .heard .size) (brings .heard .byte)))
 
   pub taken-state : (outgoing list : List ℕ) → taken l f outgoing list .state ≡ posted-ledger (afterStamping l f)
   unfolding postRule

@@ -65,19 +65,19 @@ not-above-so p own clock f g = and-both (side (heardFrom p own) (timeFrom p own)
 
 -- the place of the frame's payment among the others
 module _ (l : Ledger) (s : Almost l) (shape : Shaped l) (f : Incoming) (a : Accepted l f) where
-  place-inside : placeFor l f < countFor l f
+  pub place-inside : placeFor l f < countFor l f
   place-inside =
       split (isHeld l f)
       (λ h. subst (λ c. cond c (placeOf (l .payments) (f .payment .0)) (l .count) < cond c (l .count) (l .count + 1)) (sym h) (place-used l s shape f a h))
       (λ h. subst (λ c. cond c (placeOf (l .payments) (f .payment .0)) (l .count) < cond c (l .count) (l .count + 1)) (sym h) (omega arith))
 
-  place-others : (j : ℕ) → j < countFor l f → (j ≡ placeFor l f → ⊥) → j < l .count
+  pub place-others : (j : ℕ) → j < countFor l f → (j ≡ placeFor l f → ⊥) → j < l .count
   place-others j =
       split (isHeld l f)
       (λ h. subst (λ c. j < cond c (l .count) (l .count + 1) → (j ≡ cond c (placeOf (l .payments) (f .payment .0)) (l .count) → ⊥) → j < l .count) (sym h) (λ u o. u))
       (λ h. subst (λ c. j < cond c (l .count) (l .count + 1) → (j ≡ cond c (placeOf (l .payments) (f .payment .0)) (l .count) → ⊥) → j < l .count) (sym h) (λ u o. omega arith))
 
-place-grown : (l : Ledger) (f : Incoming) → l .count ≤ countFor l f
+pub place-grown : (l : Ledger) (f : Incoming) → l .count ≤ countFor l f
 place-grown l f =
     split (isHeld l f)
     (λ h. subst (λ c. l .count ≤ cond c (l .count) (l .count + 1)) (sym h) (omega arith))
