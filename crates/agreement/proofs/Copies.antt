@@ -1,0 +1,112 @@
+-- What may be handed in: each such frame is read as a MULTICAST of the table, or as a PROPOSE with its writer's own time.
+-- Assumes nothing.
+use Prim.Native.Nat.{ℕ, _<_, _≤_, _^_}
+use mathlib.Core.Path.{_≡_, refl, ap, sym, _∙_}
+use mathlib.Core.List.{List, [], _∷_}
+use mathlib.Core.Bool.{true, false}
+use native.Mathlib.Omega.{arith}
+use lib.Pow.{pow-mono}
+use borrow.Author.Tests.{lt-ltb}
+use Rattle.frame.specs.Digits.{fitting}
+use Rattle.frame.specs.Frames.{body, frameBytes, frameValues, known, notAFrame, table, valuesOf}
+use Rattle.frame.specs.declared.Frame.the-variants.{Multicast, Propose}
+use Rattle.frame.proofs.RoundTrip.{bytes-read}
+use Rattle.payment.specs.Ledgers.{has, without}
+use Rattle.payment.specs.Payments.{lastTime}
+use Rattle.ledger.specs.Refusals.{incoming}
+use Rattle.ledger.specs.declared.Incoming.{Incoming}
+use Rattle.agreement.specs.Run.{Call, Copy, Entry, In, Lawful, OfDesk, OfLedger, World}
+use Rattle.agreement.proofs.Hearing.{Heard}
+use Rattle.agreement.proofs.Calls.{frameOf}
+
+-- a MULTICAST of a payment, and ledger q's PROPOSE of time t for it, as they are read
+abbrev pub deskFrame : Entry → Incoming
+deskFrame e = record { kind = 1; payment = record { 0 = e .number }; destinations = e .destinations; source = record { 0 = 0 }; time = record { 0 = 0 } }
+
+abbrev pub ledgerFrame : Entry → ℕ → ℕ → Incoming
+ledgerFrame e q t = record { kind = 2; payment = record { 0 = e .number }; destinations = e .destinations; source = record { 0 = q }; time = record { 0 = t } }
+
+-- ledger q's PROPOSE with its recipients
+abbrev pub copyOf : Entry → ℕ → ℕ → Copy
+copyOf e q t =
+    record {
+      frame = frameBytes (valuesOf (Propose (record { 0 = e .number }) (e .destinations) (record { 0 = q }) (record { 0 = t })));
+      recipients = without (e .destinations) q;
+    }
+
+fits-desk : (m d : ℕ) → m < 2 ^ 32 → d < 2 ^ 8 → fitting (body table 1) (m ∷ d ∷ []) ≡ true
+unfolding body fitting
+fits-desk m d h₁ h₂ = simp (lt-ltb _ _ h₁, lt-ltb _ _ h₂)
+
+fits-ledger : (m d q t : ℕ) → m < 2 ^ 32 → d < 2 ^ 8 → q < 2 ^ 8 → t < 2 ^ 16 → fitting (body table 2) (m ∷ d ∷ q ∷ t ∷ []) ≡ true
+unfolding body fitting
+fits-ledger m d q t h₁ h₂ h₃ h₄ = simp (lt-ltb _ _ h₁, lt-ltb _ _ h₂, lt-ltb _ _ h₃, lt-ltb _ _ h₄)
+
+both-known : (known table 1 ≡ true) × (known table 2 ≡ true)
+unfolding known
+both-known = (refl, refl)
+
+-- a copy on record: who wrote it, and that it holds the writer's own time
+pub record Sent (n : ℕ) (table : List Entry) (w : World) (c : Copy) : Type 0 where
+  pub entry : Entry
+  pub put-in : In entry table
+  pub writer : ℕ
+  pub time : ℕ
+  pub is : c ≡ copyOf entry writer time
+  pub from : (1 ≤ writer) × (writer ≤ n)
+  pub among : has (entry .destinations) writer ≡ true
+  pub in-time : (1 ≤ time) × (time ≤ lastTime)
+  pub heard : Heard (w .ledgers writer) (entry .number) (entry .destinations) writer time
+
+-- what a call hands in
+pub record FromDesk (table : List Entry) (c : Call) : Type 0 where
+  pub entry : Entry
+  pub put-in : In entry table
+  pub is-frame : notAFrame (c .frame) ≡ false
+  pub frame : frameOf c ≡ deskFrame entry
+  pub destination : has (entry .destinations) (c .to) ≡ true
+
+pub record FromLedger (n : ℕ) (table : List Entry) (w : World) (c : Call) : Type 0 where
+  pub copy : Copy
+  pub sent : Sent n table w copy
+  pub is-frame : notAFrame (c .frame) ≡ false
+  pub frame : frameOf c ≡ ledgerFrame (sent .entry) (sent .writer) (sent .time)
+  pub recipient : has (without (sent .entry .destinations) (sent .writer)) (c .to) ≡ true
+
+module _ (n : ℕ) (table : List Entry) (law : Lawful n table) where
+  -- destinations are within a byte
+  pub in-byte : (e : Entry) → In e table → e .destinations < 2 ^ 8
+  in-byte e i =
+      let below = law .destinations e i .1 in
+      let most : 2 ^ n ≤ 2 ^ 8 = pow-mono {i = n} {j = 8} (law .ledgers .1) in
+      omega arith
+
+  pub from-desk : (c : Call) → OfDesk table c → FromDesk table c
+  from-desk c o =
+      let e = o .entry in
+      let read = bytes-read (valuesOf (Multicast (record { 0 = e .number }) (e .destinations))) (both-known .0) (fits-desk (e .number) (e .destinations) (law .number e (o .put-in) .1) (in-byte e (o .put-in))) in
+      record {
+        entry = e;
+        put-in = o .put-in;
+        is-frame = ap notAFrame (o .frame) ∙ read .0;
+        frame = ap (λ b. incoming (frameValues b)) (o .frame) ∙ ap incoming (read .1);
+        destination = o .destination;
+      }
+
+  pub from-ledger : (w : World) (c : Call) → ((x : Copy) → In x (w .copies) → Sent n table w x) → OfLedger w c → FromLedger n table w c
+  from-ledger w c all o =
+      let s = all (o .copy) (o .written) in
+      let e = s .entry in
+      let few = law .ledgers .1 in
+      let last = s .from .1 in
+      let early = s .in-time .1 in
+      let bytes = o .frame ∙ ap (λ x. x .frame) (s .is) in
+      let read = bytes-read (valuesOf (Propose (record { 0 = e .number }) (e .destinations) (record { 0 = s .writer }) (record { 0 = s .time }))) (both-known .1)
+      (fits-ledger (e .number) (e .destinations) (s .writer) (s .time) (law .number e (s .put-in) .1) (in-byte e (s .put-in)) (omega arith) (omega arith)) in
+      record {
+        copy = o .copy;
+        sent = s;
+        is-frame = ap notAFrame bytes ∙ read .0;
+        frame = ap (λ b. incoming (frameValues b)) bytes ∙ ap incoming (read .1);
+        recipient = ap (λ x. has (x .recipients) (c .to)) (sym (s .is)) ∙ o .recipient;
+      }

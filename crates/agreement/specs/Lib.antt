@@ -1,0 +1,3 @@
+-- What a reader must believe of a run.
+-- Assumes nothing.
+pub mod Run
