@@ -7,6 +7,7 @@ use mathlib.Core.Bool.{true, cond}
 use mathlib.Core.Logic.{_⊎_}
 use lib.Dec.{eqb}
 use lib.ListN.{getD, length, take}
+use Rattle.common.specs.Places.{count}
 use Rattle.frame.specs.Frames.{frameBytes, valuesOf}
 use Rattle.frame.specs.declared.Frame.the-variants.{Multicast}
 use Rattle.payment.specs.Ledgers.{has}
@@ -28,10 +29,11 @@ pub record Entry : Type 0 where
 abbrev pub noEntry : Entry
 noEntry = record { number = 0; destinations = 0 }
 
--- payments have different non-zero numbers, and destinations that aren't empty or beyond N; no more are put in than a ledger holds
+-- payments have different non-zero numbers, and destinations that aren't empty or beyond N; no ledger gets more than it holds
+-- (the paper does not say this last: docs/DECISIONS.md)
 pub record Lawful (n : ℕ) (table : List Entry) : Type 0 where
   pub ledgers : (1 ≤ n) × (n ≤ 8)
-  pub few : length table ≤ limit
+  pub few : (k : ℕ) → count (length table) (λ i. has (getD table i noEntry .destinations) k) ≤ limit
   pub differ : (i j : ℕ) → i < j → j < length table → getD table i noEntry .number ≡ getD table j noEntry .number → ⊥
   pub number : (e : Entry) → In e table → (e .number ≡ 0 → ⊥) × (e .number < 2 ^ 32)
   pub destinations : (e : Entry) → In e table → (e .destinations ≡ 0 → ⊥) × (e .destinations < 2 ^ n)
