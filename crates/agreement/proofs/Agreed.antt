@@ -20,8 +20,10 @@ use Rattle.ledger.specs.declared.Ledger.{Ledger}
 use Rattle.ledger.specs.declared.SetUp.{SetUp}
 use Rattle.soundness.proofs.Fresh.{fresh-shaped, fresh-sound}
 use Rattle.soundness.proofs.Kept.{brings, heardClock, speaker, spokenTime}
-use Rattle.agreement.specs.Run.{Call, Copy, Entry, In, Lawful, May, Run, World, after, called, start}
-use Rattle.agreement.proofs.Hearing.{Has, Heard, HeardTime, has-from, heard-from, heard-goes, heard-now}
+use Rattle.common.specs.Places.{In}
+use Rattle.agreement.specs.Run.{Call, Written, Entry, Lawful, Calls, May, World, after, called, start}
+use Rattle.agreement.specs.Claims.{Holds}
+use Rattle.agreement.proofs.Hearing.{Heard, HeardTime, has-from, heard-from, heard-goes, heard-now}
 use Rattle.agreement.proofs.Calls.{Well, answer, by-call, frameOf, heard-stays, view, well-stays}
 use Rattle.agreement.proofs.Written.{copies-from, copies-kept, copies-new, copy-is, newCopy, taken-call}
 use Rattle.agreement.proofs.Copies.{FromDesk, FromLedger, Sent, copyOf, from-desk, from-ledger, in-byte}
@@ -36,13 +38,13 @@ entryOf m d = record { number = m; destinations = d }
 pub record Agrees (n : ℕ) (table : List Entry) (w : World) : Type 0 where
   pub well : (k : ℕ) → 1 ≤ k → k ≤ n → Well n k (w .ledgers k)
   -- what is held is of the table
-  pub listed : (k m d : ℕ) → 1 ≤ k → k ≤ n → Has (w .ledgers k) m (Goes d) → In (entryOf m d) table
+  pub listed : (k m d : ℕ) → 1 ≤ k → k ≤ n → Holds (w .ledgers k) m (Goes d) → In (entryOf m d) table
   -- a time of q that is heard is q's own
   pub agreed : (k q m d t : ℕ) → 1 ≤ k → k ≤ n → 1 ≤ q → q ≤ n → Heard (w .ledgers k) m d q t → Heard (w .ledgers q) m d q t
   -- a copy holds its writer's own time
-  pub copied : (x : Copy) → In x (w .copies) → Sent n table w x
+  pub copied : (x : Written) → In x (w .written) → Sent n table w x
   -- an own time is on record for the other destinations
-  pub sent : (q m d t : ℕ) → 1 ≤ q → q ≤ n → Heard (w .ledgers q) m d q t → (without d q ≡ 0 → ⊥) → In (copyOf (entryOf m d) q t) (w .copies)
+  pub sent : (q m d t : ℕ) → 1 ≤ q → q ≤ n → Heard (w .ledgers q) m d q t → (without d q ≡ 0 → ⊥) → In (copyOf (entryOf m d) q t) (w .written)
 
 -- no ledger is among the others of itself
 not-itself : (d k : ℕ) → d < 2 ^ 8 → k ≤ 8 → has (without d k) k ≡ true → ⊥
@@ -101,9 +103,9 @@ module _ (n : ℕ) (table : List Entry) (law : Lawful n table) (w : World) (c : 
       (λ o. subst (λ f. In (entryOf (f .payment .0) (f .destinations)) table) (sym (o .frame)) (o .sent .put-in))
       came
 
-  listed-next : (k m d : ℕ) → 1 ≤ k → k ≤ n → Has (next k) m (Goes d) → In (entryOf m d) table
+  listed-next : (k m d : ℕ) → 1 ≤ k → k ≤ n → Holds (next k) m (Goes d) → In (entryOf m d) table
   listed-next k m d h₁ hₙ =
-      by-call w c (λ l. Has l m (Goes d) → In (entryOf m d) table) (here .shape) k
+      by-call w c (λ l. Holds l m (Goes d) → In (entryOf m d) table) (here .shape) k
       (a .listed k m d h₁ hₙ)
       (λ e t v h. has-from (w .ledgers (c .to)) (frameOf c) (t .is-sound) (here .shape) (t .unrefused) (next (c .to)) v
       (Goes d) (λ p q s g. s .destinations ∙ g) (In (entryOf m d) table) m h
@@ -115,7 +117,7 @@ module _ (n : ℕ) (table : List Entry) (law : Lawful n table) (w : World) (c : 
   no-copy : FromLedger n table w c → taken-call w c → newCopy w c .recipients ≡ 0
   no-copy o t = ap (λ x. x .recipients) (t .so) ∙ ap (recipientsOf (w .ledgers (c .to))) (o .frame)
 
-  sent-again : (x : Copy) → Sent n table w x → Sent n table (called w c) x
+  sent-again : (x : Written) → Sent n table w x → Sent n table (called w c) x
   sent-again x s =
       record {
         entry = s .entry;
@@ -150,7 +152,7 @@ module _ (n : ℕ) (table : List Entry) (law : Lawful n table) (w : World) (c : 
         heard = own-heard o t;
       }
 
-  copied-next : (x : Copy) → In x (called w c .copies) → Sent n table (called w c) x
+  copied-next : (x : Written) → In x (called w c .written) → Sent n table (called w c) x
   copied-next x =
       copies-from w c (Sent n table (called w c) x) x
       (λ i. sent-again x (a .copied x i))
@@ -162,7 +164,7 @@ module _ (n : ℕ) (table : List Entry) (law : Lawful n table) (w : World) (c : 
   -- the copy that a frame makes this ledger write
   abbrev Wrote : Incoming → Type 0
   Wrote f = (m : ℕ) → m ≡ f .payment .0 → (d : ℕ) → d ≡ f .destinations → (q : ℕ) → q ≡ speaker (w .ledgers (c .to)) f → (t : ℕ) → t ≡ spokenTime (w .ledgers (c .to)) f
-      → q ≡ c .to → (without d q ≡ 0 → ⊥) → In (copyOf (entryOf m d) q t) (called w c .copies)
+      → q ≡ c .to → (without d q ≡ 0 → ⊥) → In (copyOf (entryOf m d) q t) (called w c .written)
 
   wrote : taken-call w c → Wrote (frameOf c)
   wrote k =
@@ -176,18 +178,18 @@ module _ (n : ℕ) (table : List Entry) (law : Lawful n table) (w : World) (c : 
       ∙ ap (copyOf (o .entry) q) (sym et)
       ∙ ap (λ x. copyOf (entryOf x (o .entry .destinations)) q t) (sym em)
       ∙ ap (λ x. copyOf (entryOf m x) q t) (sym ed) in
-      subst (λ x. In x (called w c .copies)) same (copies-new w c k some)))
+      subst (λ x. In x (called w c .written)) same (copies-new w c k some)))
       (λ o. subst Wrote (sym (o .frame)) (λ m em d ed q eq t et e z.
       absurd (not-itself (o .sent .entry .destinations) (c .to) (in-byte n table law (o .sent .entry) (o .sent .put-in)) (few (may .ledger .1))
       (subst (λ x. has (without (o .sent .entry .destinations) x) (c .to) ≡ true) (sym eq ∙ e) (o .recipient)))))
       came
 
-  sent-next : (q m d t : ℕ) → 1 ≤ q → q ≤ n → Heard (next q) m d q t → (without d q ≡ 0 → ⊥) → In (copyOf (entryOf m d) q t) (called w c .copies)
+  sent-next : (q m d t : ℕ) → 1 ≤ q → q ≤ n → Heard (next q) m d q t → (without d q ≡ 0 → ⊥) → In (copyOf (entryOf m d) q t) (called w c .written)
   sent-next q m d t h₁ hₙ =
-      by-call w c (λ l. Heard l m d q t → (without d q ≡ 0 → ⊥) → In (copyOf (entryOf m d) q t) (called w c .copies)) (here .shape) q
+      by-call w c (λ l. Heard l m d q t → (without d q ≡ 0 → ⊥) → In (copyOf (entryOf m d) q t) (called w c .written)) (here .shape) q
       (λ h z. copies-kept w c _ (a .sent q m d t h₁ hₙ h z))
       (λ e k v h z. heard-from (w .ledgers (c .to)) (frameOf c) (k .is-sound) (here .shape) (k .unrefused) (next (c .to)) v
-      (In (copyOf (entryOf m d) q t) (called w c .copies)) m d q t h₁ (few hₙ) h
+      (In (copyOf (entryOf m d) q t) (called w c .written)) m d q t h₁ (few hₙ) h
       (λ o. copies-kept w c _ (a .sent q m d t h₁ hₙ (subst (λ j. Heard (w .ledgers j) m d q t) (sym e) o) z))
       (λ em ed eq et. wrote k m em d ed q eq t et e z))
 
@@ -210,7 +212,7 @@ module _ (n : ℕ) (table : List Entry) (law : Lawful n table) where
   unfolding setUp
   set-up-is k h₁ hₙ = ap (λ b. cond {A = SetUp} b (record { state = fresh n k; answer = 0 }) (record { state = fresh 0 0; answer = 1 }) .state) (lawful k h₁ hₙ)
 
-  nothing-held : (k m : ℕ) (P : Payment → Type 0) → 1 ≤ k → k ≤ n → Has (setUp n k .state) m P → ⊥
+  nothing-held : (k m : ℕ) (P : Payment → Type 0) → 1 ≤ k → k ≤ n → Holds (setUp n k .state) m P → ⊥
   nothing-held k m P h₁ hₙ h = let u = subst (λ l. h .at-place < l .count) (set-up-is k h₁ hₙ) (h .used) in omega arith
 
   agrees-start : Agrees n table (start n)
@@ -229,7 +231,7 @@ module _ (n : ℕ) (table : List Entry) (law : Lawful n table) where
       }
 
   -- after every call of a run
-  pub agrees : (cs : List Call) → Run n table cs → Agrees n table (after n cs)
+  pub agrees : (cs : List Call) → Calls n table cs → Agrees n table (after n cs)
   unfolding after
   agrees [] r = agrees-start
   agrees (c ∷ cs) r = agrees-next n table law (after n cs) c (r .0) (agrees cs (r .1))

@@ -15,7 +15,8 @@ use Rattle.payment.specs.Ledgers.{has, without}
 use Rattle.payment.specs.Payments.{lastTime}
 use Rattle.ledger.specs.Refusals.{incoming}
 use Rattle.ledger.specs.declared.Incoming.{Incoming}
-use Rattle.agreement.specs.Run.{Call, Copy, Entry, In, Lawful, OfDesk, OfLedger, World}
+use Rattle.common.specs.Places.{In}
+use Rattle.agreement.specs.Run.{Call, Written, Entry, Lawful, OfDesk, OfLedger, World}
 use Rattle.agreement.proofs.Hearing.{Heard}
 use Rattle.agreement.proofs.Calls.{frameOf}
 
@@ -27,7 +28,7 @@ abbrev pub ledgerFrame : Entry → ℕ → ℕ → Incoming
 ledgerFrame e q t = record { kind = 2; payment = record { 0 = e .number }; destinations = e .destinations; source = record { 0 = q }; time = record { 0 = t } }
 
 -- ledger q's PROPOSE with its recipients
-abbrev pub copyOf : Entry → ℕ → ℕ → Copy
+abbrev pub copyOf : Entry → ℕ → ℕ → Written
 copyOf e q t =
     record {
       frame = frameBytes (valuesOf (Propose (record { 0 = e .number }) (e .destinations) (record { 0 = q }) (record { 0 = t })));
@@ -47,7 +48,7 @@ unfolding known
 both-known = (refl, refl)
 
 -- a copy on record: who wrote it, and that it holds the writer's own time
-pub record Sent (n : ℕ) (table : List Entry) (w : World) (c : Copy) : Type 0 where
+pub record Sent (n : ℕ) (table : List Entry) (w : World) (c : Written) : Type 0 where
   pub entry : Entry
   pub put-in : In entry table
   pub writer : ℕ
@@ -67,8 +68,8 @@ pub record FromDesk (table : List Entry) (c : Call) : Type 0 where
   pub destination : has (entry .destinations) (c .to) ≡ true
 
 pub record FromLedger (n : ℕ) (table : List Entry) (w : World) (c : Call) : Type 0 where
-  pub copy : Copy
-  pub sent : Sent n table w copy
+  pub propose : Written
+  pub sent : Sent n table w propose
   pub is-frame : notAFrame (c .frame) ≡ false
   pub frame : frameOf c ≡ ledgerFrame (sent .entry) (sent .writer) (sent .time)
   pub recipient : has (without (sent .entry .destinations) (sent .writer)) (c .to) ≡ true
@@ -93,9 +94,9 @@ module _ (n : ℕ) (table : List Entry) (law : Lawful n table) where
         destination = o .destination;
       }
 
-  pub from-ledger : (w : World) (c : Call) → ((x : Copy) → In x (w .copies) → Sent n table w x) → OfLedger w c → FromLedger n table w c
+  pub from-ledger : (w : World) (c : Call) → ((x : Written) → In x (w .written) → Sent n table w x) → OfLedger w c → FromLedger n table w c
   from-ledger w c all o =
-      let s = all (o .copy) (o .written) in
+      let s = all (o .propose) (o .written) in
       let e = s .entry in
       let few = law .ledgers .1 in
       let last = s .from .1 in
@@ -104,7 +105,7 @@ module _ (n : ℕ) (table : List Entry) (law : Lawful n table) where
       let read = bytes-read (valuesOf (Propose (record { 0 = e .number }) (e .destinations) (record { 0 = s .writer }) (record { 0 = s .time }))) (both-known .1)
       (fits-ledger (e .number) (e .destinations) (s .writer) (s .time) (law .number e (s .put-in) .1) (in-byte e (s .put-in)) (omega arith) (omega arith)) in
       record {
-        copy = o .copy;
+        propose = o .propose;
         sent = s;
         is-frame = ap notAFrame bytes ∙ read .0;
         frame = ap (λ b. incoming (frameValues b)) bytes ∙ ap incoming (read .1);

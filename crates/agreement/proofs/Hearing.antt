@@ -26,15 +26,8 @@ use Rattle.soundness.proofs.Accepted.{Accepted, Base, accepted, apart-numbers, 
 use Rattle.soundness.proofs.Kept.{brings, heardPayment, speaker, spokenTime}
 use Rattle.soundness.proofs.Replacing.{by-place}
 use Rattle.soundness.proofs.Taking.{place-grown, place-inside, place-others}
+use Rattle.agreement.specs.Claims.{Holds}
 use Rattle.agreement.proofs.View.{Same, View}
-
--- the ledger holds payment m, and P is so of it
-pub record Has (l : Ledger) (m : ℕ) (P : Payment → Type 0) : Type 0 where
-  pub at-place : ℕ
-  pub within : at-place < limit
-  pub used : at-place < l .count
-  pub number : at (l .payments) at-place .number .0 ≡ m
-  pub so : P (at (l .payments) at-place)
 
 -- what is so of a payment whatever its phase
 abbrev pub Lasting : (Payment → Type 0) → Type 0
@@ -47,7 +40,7 @@ pub record HeardTime (d q t : ℕ) (p : Payment) : Type 0 where
   pub time : timeFrom p q ≡ t
 
 abbrev pub Heard : Ledger → ℕ → ℕ → ℕ → ℕ → Type 0
-Heard l m d q t = Has l m (HeardTime d q t)
+Heard l m d q t = Holds l m (HeardTime d q t)
 
 pub heard-lasts : (d q t : ℕ) → Lasting (HeardTime d q t)
 heard-lasts d q t p r s h =
@@ -128,7 +121,7 @@ module _ (l : Ledger) (f : Incoming) (is-sound : sound l ≡ true) (shape : Shap
     heard-number : heardPayment l f .number .0 ≡ f .payment .0
     heard-number = ap (λ x. x .0) (brings l f is-sound shape e .heard .number) ∙ b .number
 
-    pub has-now : (P : Payment → Type 0) → Lasting P → P (heardPayment l f) → Has after (f .payment .0) P
+    pub has-now : (P : Payment → Type 0) → Lasting P → P (heardPayment l f) → Holds after (f .payment .0) P
     has-now P lasts h =
         record {
           at-place = placeFor l f;
@@ -138,11 +131,11 @@ module _ (l : Ledger) (f : Incoming) (is-sound : sound l ≡ true) (shape : Shap
           so = lasts _ _ (v .self) h;
         }
 
-    pub has-kept : (P : Payment → Type 0) → Lasting P → (P (paymentFor l f) → P (heardPayment l f)) → (m : ℕ) → Has l m P → Has after m P
+    pub has-kept : (P : Payment → Type 0) → Lasting P → (P (paymentFor l f) → P (heardPayment l f)) → (m : ℕ) → Holds l m P → Holds after m P
     has-kept P lasts goes m o =
         by-place (o .at-place) (placeFor l f)
         (λ g. let is = is-payment (o .at-place) (o .used) g in
-        subst (λ n. Has after n P) (sym (b .number) ∙ ap (λ p. p .number .0) is ∙ o .number) (has-now P lasts (goes (subst P (sym is) (o .so)))))
+        subst (λ n. Holds after n P) (sym (b .number) ∙ ap (λ p. p .number .0) is ∙ o .number) (has-now P lasts (goes (subst P (sym is) (o .so)))))
         (λ g. let s = v .other (o .at-place) (o .within) g in let g = place-grown l f in
         record {
           at-place = o .at-place;
@@ -156,8 +149,8 @@ module _ (l : Ledger) (f : Incoming) (is-sound : sound l ≡ true) (shape : Shap
         grown-used {j} u = let g = place-grown l f in omega arith
 
     -- what is so of a payment afterwards was so of it before, or is of the frame's payment
-    pub has-from : (P : Payment → Type 0) → Lasting P → (A : Type 0) (m : ℕ) → Has after m P
-        → (Has l m P → A) → (m ≡ f .payment .0 → P (heardPayment l f) → A) → A
+    pub has-from : (P : Payment → Type 0) → Lasting P → (A : Type 0) (m : ℕ) → Holds after m P
+        → (Holds l m P → A) → (m ≡ f .payment .0 → P (heardPayment l f) → A) → A
     has-from P lasts A m o old new =
         by-place (o .at-place) (placeFor l f)
         (λ g. let s = back (subst (λ i. Same (at (after .payments) i) (heardPayment l f)) (sym g) (v .self)) in
@@ -175,7 +168,7 @@ module _ (l : Ledger) (f : Incoming) (is-sound : sound l ≡ true) (shape : Shap
         back s = record { number = sym (s .number); destinations = sym (s .destinations); heard = sym (s .heard); times = sym (s .times) }
 
     -- the frame's payment was held
-    pub has-held : (P : Payment → Type 0) → isHeld l f ≡ true → P (paymentFor l f) → Has l (f .payment .0) P
+    pub has-held : (P : Payment → Type 0) → isHeld l f ≡ true → P (paymentFor l f) → Holds l (f .payment .0) P
     has-held P held h =
         record {
           at-place = placeOf (l .payments) (f .payment .0);
@@ -214,7 +207,7 @@ module _ (l : Ledger) (f : Incoming) (is-sound : sound l ≡ true) (shape : Shap
             (record { destinations = sym (w .destinations) ∙ h .destinations; heard = was; time = sym (w .time-other k (omega arith) z) ∙ h .time })
 
 -- what is so of one payment stands at one place
-pub at-one-place : (l : Ledger) → sound l ≡ true → (m : ℕ) (P Q : Payment → Type 0) (x : Has l m P) (y : Has l m Q) → Q (at (l .payments) (x .at-place))
+pub at-one-place : (l : Ledger) → sound l ≡ true → (m : ℕ) (P Q : Payment → Type 0) (x : Holds l m P) (y : Holds l m Q) → Q (at (l .payments) (x .at-place))
 at-one-place l is-sound m P Q x y =
     by-place (x .at-place) (y .at-place)
     (λ e. subst (λ i. Q (at (l .payments) i)) (sym e) (y .so))

@@ -5,4 +5,6 @@ pub mod Hearing
 pub mod Calls
 pub mod Copies
 pub mod Written
+pub mod Entries
 pub mod Agreed
+pub mod Stamps

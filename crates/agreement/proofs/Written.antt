@@ -10,7 +10,7 @@ use lib.ListN.{drop, take}
 use borrow.Author.Tests.{eqb-false, eqb-true, ne-eqb}
 use lib.Seq.{take-at}
 use Rattle.common.proofs.TestLaws.{split}
-use Rattle.frame.specs.Frames.{Values, body, frameBytes, valuesOf, writingOf}
+use Rattle.frame.specs.Frames.{Values, body, frameBytes, propose, total, valuesOf, writingOf}
 use Rattle.frame.specs.Digits.{sum}
 use Rattle.frame.specs.declared.Frame.the-variants.{Propose}
 use Rattle.frame.proofs.FrameLaws.{length-frameBytes, writing-fits}
@@ -18,7 +18,8 @@ use Rattle.payment.specs.Ledgers.{without}
 use Rattle.ledger.specs.Step.{newOwnTime, recipientsOf, sent, step, taken}
 use Rattle.ledger.specs.declared.Ledger.{Ledger}
 use Rattle.soundness.proofs.Steps.{Taken, is-refused, is-taken}
-use Rattle.agreement.specs.Run.{Call, Copy, Entry, In, World, called}
+use Rattle.common.specs.Places.{In}
+use Rattle.agreement.specs.Run.{Call, Written, Entry, World, called}
 use Rattle.agreement.proofs.Calls.{answer, frameOf}
 use Rattle.agreement.proofs.Copies.{copyOf, deskFrame}
 
@@ -26,10 +27,10 @@ module _ (w : World) (c : Call) where
   abbrev before : Ledger
   before = w .ledgers (c .to)
 
-  abbrev pub newCopy : Copy
+  abbrev pub newCopy : Written
   newCopy =
       record {
-        frame = take 9 (step (w .ledgers (c .to)) (c .frame) (c .outgoing) (c .list) .outgoing);
+        frame = take (total (propose .kind)) (step (w .ledgers (c .to)) (c .frame) (c .outgoing) (c .list) .outgoing);
         recipients = step (w .ledgers (c .to)) (c .frame) (c .outgoing) (c .list) .recipients;
       }
 
@@ -37,21 +38,21 @@ module _ (w : World) (c : Call) where
   taken-call = Taken (w .ledgers (c .to)) (c .frame) (c .outgoing) (c .list)
 
   -- no copy is lost
-  pub copies-kept : (x : Copy) → In x (w .copies) → In x (called w c .copies)
+  pub copies-kept : (x : Written) → In x (w .written) → In x (called w c .written)
   unfolding called
   copies-kept x i = go (eqb (newCopy .recipients) 0)
     where
-      go : (b : Bool) → In x (cond b (w .copies) (newCopy ∷ w .copies))
+      go : (b : Bool) → In x (cond b (w .written) (newCopy ∷ w .written))
       go true = i
       go false = inr i
 
   -- a copy was there, or the call wrote it
-  pub copies-from : (A : Type 0) (x : Copy) → (In x (w .copies) → A) → (taken-call → (newCopy .recipients ≡ 0 → ⊥) → x ≡ newCopy → A) → In x (called w c .copies) → A
+  pub copies-from : (A : Type 0) (x : Written) → (In x (w .written) → A) → (taken-call → (newCopy .recipients ≡ 0 → ⊥) → x ≡ newCopy → A) → In x (called w c .written) → A
   unfolding called
   copies-from A x old new =
       split (eqb (newCopy .recipients) 0)
-      (λ t. subst (λ b. In x (cond b (w .copies) (newCopy ∷ w .copies)) → A) (sym t) old)
-      (λ t. subst (λ b. In x (cond b (w .copies) (newCopy ∷ w .copies)) → A) (sym t) (⊎-elim (new (was-taken t) (eqb-false _ _ t)) old))
+      (λ t. subst (λ b. In x (cond b (w .written) (newCopy ∷ w .written)) → A) (sym t) old)
+      (λ t. subst (λ b. In x (cond b (w .written) (newCopy ∷ w .written)) → A) (sym t) (⊎-elim (new (was-taken t) (eqb-false _ _ t)) old))
     where
       was-taken : eqb (newCopy .recipients) 0 ≡ false → taken-call
       was-taken t =
@@ -60,9 +61,9 @@ module _ (w : World) (c : Call) where
           (λ z. absurd (eqb-false _ _ t (ap (λ o. o .recipients) (is-refused (w .ledgers (c .to)) (c .frame) (c .outgoing) (c .list) (eqb-false _ _ z)))))
 
   -- a written copy is in the list
-  pub copies-new : taken-call → (newCopy .recipients ≡ 0 → ⊥) → In newCopy (called w c .copies)
+  pub copies-new : taken-call → (newCopy .recipients ≡ 0 → ⊥) → In newCopy (called w c .written)
   unfolding called
-  copies-new t n = subst (λ b. In newCopy (cond b (w .copies) (newCopy ∷ w .copies))) (sym (ne-eqb _ _ n)) (inl refl)
+  copies-new t n = subst (λ b. In newCopy (cond b (w .written) (newCopy ∷ w .written))) (sym (ne-eqb _ _ n)) (inl refl)
 
   -- what the copy of a taken MULTICAST holds
   pub copy-is : (e : Entry) → taken-call → frameOf c ≡ deskFrame e → (newCopy .recipients ≡ 0 → ⊥) → before .own .0 ≡ c .to → newCopy ≡ copyOf e (c .to) (before .clock .0 + 1)

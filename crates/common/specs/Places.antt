@@ -1,8 +1,10 @@
--- Tests of all the places below a bound.
+-- Tests of all the places below a bound, and the members of a list.
 -- Assumes nothing.
 use Prim.Native.Nat.{ℕ, zero, suc, _+_}
+use mathlib.Core.Path.{_≡_}
 use mathlib.Core.List.{List, [], _∷_, _++_}
 use mathlib.Core.Bool.{Bool, true, false, cond, _&&_, _||_}
+use mathlib.Core.Logic.{_⊎_}
 
 -- f holds at every place below n
 unfoldable pub every : ℕ → (ℕ → Bool) → Bool
@@ -28,3 +30,8 @@ first (suc n) f = cond (any n f) (first n f) (cond (f n) n (suc n))
 unfoldable pub listed {ℓ} : {A : Type ℓ} → ℕ → (ℕ → A) → List A
 listed zero f = []
 listed (suc n) f = listed n f ++ (f n ∷ [])
+
+-- a member of a list
+abbrev pub In : {A : Type 0} → A → List A → Type 0
+In x [] = ⊥
+In x (y ∷ ys) = (x ≡ y) ⊎ In x ys

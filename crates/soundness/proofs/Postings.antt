@@ -9,6 +9,7 @@ use native.Mathlib.Omega.{arith}
 use lib.Dec.{eqb, ltb}
 use borrow.Author.Tests.{eq-eqb, eqb-false, eqb-true, lt-ltb, ltb-false, ltb-true, not-true}
 use Rattle.common.proofs.TestLaws.{split}
+use Rattle.common.specs.Places.{In}
 use Rattle.payment.specs.Ledgers.{has}
 use Rattle.payment.specs.Payments.{heardFrom, isPosted, stampOf, timeFrom}
 use Rattle.payment.specs.Right.{lawful, phaseRight}
@@ -28,7 +29,7 @@ use Rattle.soundness.proofs.Apart.{Apart}
 use Rattle.ledger.proofs.SoundLaws.{Almost}
 use Rattle.soundness.proofs.Accepted.{apart-pairs}
 use Rattle.soundness.proofs.Replacing.{unused-phase}
-use Rattle.soundness.proofs.Rising.{All, Has, Rising, sorted-all, sorted-has, sorted-rising}
+use Rattle.soundness.proofs.Rising.{All, Rising, sorted-all, sorted-has, sorted-rising}
 use Rattle.soundness.proofs.Taking.{own-among}
 
 stamp-small : (p : Payment) → stampOf p .ledger .0 ≤ 8
@@ -48,7 +49,7 @@ below-trans p q r a b =
     below-stamps p r ∙ lt-ltb (rank (stampOf p)) (rank (stampOf r)) (lt-trans first second)
 
 -- a payment that this ledger was heard for has a stamp of one of the eight ledgers
-stamp-some : (p : Payment) (own : ℕ) → 1 ≤ own → own ≤ 8 → heardFrom p own ≡ true → 1 ≤ stampOf p .ledger .0
+pub stamp-some : (p : Payment) (own : ℕ) → 1 ≤ own → own ≤ 8 → heardFrom p own ≡ true → 1 ≤ stampOf p .ledger .0
 stamp-some p own h g e =
     let is : own ≡ suc (own - 1) = place own (λ z. omega arith) in
     let top : timeFrom p (suc (own - 1)) * 256 + suc (own - 1) ≤ stampOf p .time .0 * 256 + stampOf p .ledger .0 =
@@ -118,5 +119,5 @@ module _ (l : Ledger) (s : Almost l) (range : (1 ≤ l .own .0) × (l .own .0 �
 pub posting-free : (payments : List Payment) (own : ℕ) → All (λ i. (i < limit) × (isFree payments own i ≡ true)) (toPost payments own)
 posting-free payments own = sorted-all (before payments) (isFree payments own) _ limit (λ k h e. (h, e))
 
-pub posting-all : (payments : List Payment) (own i : ℕ) → i < limit → isFree payments own i ≡ true → Has i (toPost payments own)
+pub posting-all : (payments : List Payment) (own i : ℕ) → i < limit → isFree payments own i ≡ true → In i (toPost payments own)
 posting-all payments own i h e = sorted-has (before payments) (isFree payments own) limit i h e

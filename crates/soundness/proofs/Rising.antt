@@ -7,6 +7,7 @@ use mathlib.Core.Bool.{Bool, true, false, cond}
 use mathlib.Core.Logic.{_⊎_, inl, inr, ⊎-elim}
 use native.Mathlib.Nat.{not-suc-le-zero}
 use native.Mathlib.Omega.{arith}
+use Rattle.common.specs.Places.{In}
 use Rattle.common.specs.Order.{insert, sorted}
 use Rattle.common.proofs.PlaceLaws.{last-or-before}
 use Rattle.common.proofs.TestLaws.{both, split}
@@ -15,11 +16,6 @@ use Rattle.common.proofs.TestLaws.{both, split}
 abbrev pub All : (ℕ → Type 0) → List ℕ → Type 0
 All P [] = Unit {0}
 All P (x ∷ xs) = P x × All P xs
-
--- a member of a list
-abbrev pub Has : ℕ → List ℕ → Type 0
-Has x [] = ⊥
-Has x (y ∷ ys) = (x ≡ y) ⊎ Has x ys
 
 -- each before all that follow it
 abbrev pub Rising : (ℕ → ℕ → Bool) → List ℕ → Type 0
@@ -30,7 +26,7 @@ pub all-map : (P Q : ℕ → Type 0) (xs : List ℕ) → ((x : ℕ) → P x → 
 all-map P Q [] f a = tt
 all-map P Q (x ∷ xs) f a = (f x (a .0), all-map P Q xs f (a .1))
 
-pub all-has : (P : ℕ → Type 0) (xs : List ℕ) → All P xs → (x : ℕ) → Has x xs → P x
+pub all-has : (P : ℕ → Type 0) (xs : List ℕ) → All P xs → (x : ℕ) → In x xs → P x
 all-has P [] a x h = absurd h
 all-has P (y ∷ ys) a x h = ⊎-elim (λ e. subst P (sym e) (a .0)) (λ t. all-has P ys (a .1) x t) h
 
@@ -49,16 +45,16 @@ module _ (before : ℕ → ℕ → Bool) where
   all-insert P i [] p a = (p, tt)
   all-insert P i (j ∷ js) p a = at-insert (All P) i j js (λ t. (p, (a .0, a .1))) (λ t. (a .0, all-insert P i js p (a .1)))
 
-  has-new : (i : ℕ) (js : List ℕ) → Has i (insert before i js)
+  has-new : (i : ℕ) (js : List ℕ) → In i (insert before i js)
   unfolding insert
   has-new i [] = inl refl
-  has-new i (j ∷ js) = at-insert (Has i) i j js (λ t. inl refl) (λ t. inr (has-new i js))
+  has-new i (j ∷ js) = at-insert (In i) i j js (λ t. inl refl) (λ t. inr (has-new i js))
 
-  has-old : (x i : ℕ) (js : List ℕ) → Has x js → Has x (insert before i js)
+  has-old : (x i : ℕ) (js : List ℕ) → In x js → In x (insert before i js)
   unfolding insert
   has-old x i [] h = absurd h
   has-old x i (j ∷ js) h =
-      at-insert (Has x) i j js (λ t. inr h) (λ t. ⊎-elim (λ e. inl e) (λ m. inr (has-old x i js m)) h)
+      at-insert (In x) i j js (λ t. inr h) (λ t. ⊎-elim (λ e. inl e) (λ m. inr (has-old x i js m)) h)
 
   rising-insert : (i : ℕ) (js : List ℕ)
       → ((a b c : ℕ) → before a b ≡ true → before b c ≡ true → before a c ≡ true)
@@ -88,13 +84,13 @@ module _ (before : ℕ → ℕ → Bool) where
         let rest = sorted-all P n (λ k h e. g k (omega arith) e) in
         at-sorted (All P) n (λ t. all-insert P n (sorted before f n) (g n (omega arith) t) rest) (λ t. rest)
 
-    pub sorted-has : (n k : ℕ) → k < n → f k ≡ true → Has k (sorted before f n)
+    pub sorted-has : (n k : ℕ) → k < n → f k ≡ true → In k (sorted before f n)
     unfolding sorted
     sorted-has zero k h e = absurd (not-suc-le-zero h)
     sorted-has (suc n) k h e =
         last-or-before n k h
-        (λ q. at-sorted (Has k) n (λ t. subst (λ m. Has m (insert before n (sorted before f n))) (sym q) (has-new n (sorted before f n))) (λ t. both (subst (λ m. f m ≡ true) q e) t))
-        (λ l. at-sorted (Has k) n (λ t. has-old k n (sorted before f n) (sorted-has n k l e)) (λ t. sorted-has n k l e))
+        (λ q. at-sorted (In k) n (λ t. subst (λ m. In m (insert before n (sorted before f n))) (sym q) (has-new n (sorted before f n))) (λ t. both (subst (λ m. f m ≡ true) q e) t))
+        (λ l. at-sorted (In k) n (λ t. has-old k n (sorted before f n) (sorted-has n k l e)) (λ t. sorted-has n k l e))
 
     -- they rise, where any two of them are in an order
     pub sorted-rising : ((a b c : ℕ) → before a b ≡ true → before b c ≡ true → before a c ≡ true)

@@ -6,6 +6,7 @@ use mathlib.Core.List.{List, _++_}
 use mathlib.Core.Bool.{true}
 use lib.ListN.{drop, length, length-map}
 use Rattle.frame.specs.Frames.{frameValues}
+use Rattle.common.specs.Places.{In}
 use Rattle.payment.specs.Ledgers.{howMany}
 use Rattle.held.specs.Held.{at, limit}
 use Rattle.held.specs.Posting.{before, isFree, numbers, toPost}
@@ -18,7 +19,7 @@ use Rattle.soundness.specs.Shaped.{Shaped}
 use Rattle.soundness.proofs.Bringing.{own-range}
 use Rattle.soundness.proofs.Kept.{heard-almost, taken-sound}
 use Rattle.soundness.proofs.Postings.{posting-all, posting-free, posting-rising}
-use Rattle.soundness.proofs.Rising.{All, Has, Rising}
+use Rattle.soundness.proofs.Rising.{All, Rising}
 use Rattle.soundness.proofs.Steps.{is-taken}
 
 -- all that rule 4 says of a step that is taken; `after` is the ledger when the payment has been heard, and stamped if all were
@@ -29,7 +30,7 @@ pub record Posts (after : Ledger) (list : List ℕ) (o : Outcome) : Type 0 where
   pub count-is : o .postings ≡ length (toPost (after .payments) (after .own .0))
   -- exactly the payments that were free
   pub only-free : All (λ i. (i < limit) × (isFree (after .payments) (after .own .0) i ≡ true)) (toPost (after .payments) (after .own .0))
-  pub all-free : (i : ℕ) → i < limit → isFree (after .payments) (after .own .0) i ≡ true → Has i (toPost (after .payments) (after .own .0))
+  pub all-free : (i : ℕ) → i < limit → isFree (after .payments) (after .own .0) i ≡ true → In i (toPost (after .payments) (after .own .0))
   -- strictly rising by stamp, and so each once
   pub rising : Rising (before (after .payments)) (toPost (after .payments) (after .own .0))
   -- afterwards no stamped payment is free

@@ -1,0 +1,98 @@
+-- Demand 3: what is claimed of every run.
+-- Assumes nothing.
+use Prim.Native.Nat.{ℕ, _<_, _≤_}
+use mathlib.Core.Path.{_≡_}
+use mathlib.Core.List.{List, [], _∷_, _++_}
+use mathlib.Core.Bool.{true}
+use mathlib.Core.Logic.{_⊎_}
+use Rattle.frame.specs.Frames.{frameBytes, valuesOf}
+use Rattle.payment.specs.Ledgers.{has}
+use Rattle.payment.specs.Payments.{hasStamp, stampOf}
+use Rattle.payment.specs.Stamps.{below}
+use Rattle.payment.specs.declared.Payment.{Payment}
+use Rattle.payment.specs.declared.Stamp.{Stamp}
+use Rattle.held.specs.Held.{at, limit}
+use Rattle.ledger.specs.declared.Ledger.{Ledger}
+use Rattle.common.specs.Places.{In}
+use Rattle.agreement.specs.Run.{Call, Written, Entry, Calls, World, after, multicastCopy}
+
+-- a ledger holds payment m, and P is so of it
+pub record Holds (l : Ledger) (m : ℕ) (P : Payment → Type 0) : Type 0 where
+  pub at-place : ℕ
+  pub within : at-place < limit
+  pub used : at-place < l .count
+  pub number : at (l .payments) at-place .number .0 ≡ m
+  pub so : P (at (l .payments) at-place)
+
+-- a payment is stamped, or posted, with stamp s
+abbrev pub WithStamp : Stamp → Payment → Type 0
+WithStamp s p = (hasStamp p ≡ true) × (stampOf p ≡ s)
+
+abbrev pub Stamped : Ledger → ℕ → Stamp → Type 0
+Stamped l m s = Holds l m (WithStamp s)
+
+-- the stamp of payment x is below that of payment y
+pub record Earlier (l : Ledger) (x y : ℕ) : Type 0 where
+  pub first : Stamp
+  pub second : Stamp
+  pub of-first : Stamped l x first
+  pub of-second : Stamped l y second
+  pub below-it : below first second ≡ true
+
+-- x stands before y in a list
+abbrev pub Precedes : ℕ → ℕ → List ℕ → Type 0
+Precedes x y [] = ⊥
+Precedes x y (z ∷ zs) = ((x ≡ z) × In y zs) ⊎ Precedes x y zs
+
+-- payment m of the table has ledger k among its destinations
+pub record Addressed (table : List Entry) (k m : ℕ) : Type 0 where
+  pub entry : Entry
+  pub put-in : In entry table
+  pub number : entry .number ≡ m
+  pub destination : has (entry .destinations) k ≡ true
+
+-- a frame was handed to ledger k
+pub record HandedIn (frame : List ℕ) (k : ℕ) (cs : List Call) : Type 0 where
+  pub call : Call
+  pub among : In call cs
+  pub to : call .to ≡ k
+  pub bytes : call .frame ≡ frame
+
+-- every copy is handed in when each of these has been handed to its ledger at least once
+pub record AllHandedIn (n : ℕ) (table : List Entry) (cs : List Call) : Type 0 where
+  pub multicasts : (e : Entry) → In e table → (k : ℕ) → has (e .destinations) k ≡ true → HandedIn (multicastCopy e) k cs
+  pub proposes : (x : Written) → In x (after n cs .written) → (k : ℕ) → has (x .recipients) k ≡ true → HandedIn (x .frame) k cs
+
+-- ledger k is one of the group
+abbrev pub OfGroup : ℕ → ℕ → Type 0
+OfGroup n k = (1 ≤ k) × (k ≤ n)
+
+-- what has been stamped or posted stays so: every stamp is kept, and the log only grows at its end
+pub record Stays (k : ℕ) (now later : World) : Type 0 where
+  pub stamps : (m : ℕ) (s : Stamp) → Stamped (now .ledgers k) m s → Stamped (later .ledgers k) m s
+  pub added : List ℕ
+  pub log : later .logs k ≡ now .logs k ++ added
+
+-- demand 3, after the calls cs of a run
+pub record Demand3 (n : ℕ) (table : List Entry) (cs : List Call) : Type 0 where
+  -- in such a run only 0 and 9 are answered
+  pub answers : (a : ℕ) → In a (after n cs .answers) → (a ≡ 0) ⊎ (a ≡ 9)
+  -- one stamp per payment wherever it is stamped
+  pub one-stamp : (j k m : ℕ) (s r : Stamp) → OfGroup n j → OfGroup n k
+      → Stamped (after n cs .ledgers j) m s → Stamped (after n cs .ledgers k) m r → s ≡ r
+  -- no two alike, at the same ledger or at two
+  pub no-two-alike : (j k x y : ℕ) (s : Stamp) → OfGroup n j → OfGroup n k
+      → Stamped (after n cs .ledgers j) x s → Stamped (after n cs .ledgers k) y s → x ≡ y
+  -- each ledger's postings strictly rising by stamp
+  pub rising : (k x y : ℕ) → OfGroup n k → Precedes x y (after n cs .logs k) → Earlier (after n cs .ledgers k) x y
+  -- so no payment is posted twice
+  pub once : (k x : ℕ) → OfGroup n k → Precedes x x (after n cs .logs k) → ⊥
+  -- and two ledgers have their common payments in the same order
+  pub same-order : (j k x y : ℕ) → OfGroup n j → OfGroup n k → Precedes x y (after n cs .logs j)
+      → In x (after n cs .logs k) → In y (after n cs .logs k) → Precedes x y (after n cs .logs k)
+  -- a ledger posts only its payments
+  pub only-its : (k m : ℕ) → OfGroup n k → In m (after n cs .logs k) → Addressed table k m
+  -- once every copy is handed in each ledger has posted exactly its payments
+  pub all-posted : AllHandedIn n table cs → (k m : ℕ) → OfGroup n k → Addressed table k m → In m (after n cs .logs k)
+  -- what has been stamped or posted stays so in every longer run
+  pub stays : (ds : List Call) → Calls n table (ds ++ cs) → (k : ℕ) → OfGroup n k → Stays k (after n cs) (after n (ds ++ cs))
