@@ -64,7 +64,7 @@ module _ (n : ℕ) (table : List Entry) (law : Lawful n table) (w : World) (c : 
   stays : (j m d q t : ℕ) → 1 ≤ q → q ≤ n → Heard (w .ledgers j) m d q t → Heard (next j) m d q t
   stays j m d q t h₁ hₙ = heard-stays w c (here .shape) j m d q t h₁ (few hₙ)
 
-  came : FromDesk table c ⊎ FromLedger n table w c
+  pub came : FromDesk table c ⊎ FromLedger n table w c
   came = ⊎-elim (λ o. inl (from-desk n table law c o)) (λ o. inr (from-ledger n table law w c (a .copied) o)) (may .copy)
 
   -- what the frame says, by what it is: the own time of the ledger that is called, or the writer's own time
@@ -96,7 +96,7 @@ module _ (n : ℕ) (table : List Entry) (law : Lawful n table) (w : World) (c : 
       (λ em ed eq et. says (c .to) refl q eq t et m em d ed h))
 
   -- the frame's payment is of the table
-  of-table : In (entryOf (frameOf c .payment .0) (frameOf c .destinations)) table
+  pub of-table : In (entryOf (frameOf c .payment .0) (frameOf c .destinations)) table
   of-table =
       ⊎-elim
       (λ o. subst (λ f. In (entryOf (f .payment .0) (f .destinations)) table) (sym (o .frame)) (o .put-in))

@@ -71,7 +71,7 @@ module _ (l : Ledger) (f : Incoming) (is-sound : sound l ≡ true) (shape : Shap
       ∙ sym (and-go _ h) ∙ a .no-repeat)))
       (λ h. ap (λ c. either-payment c .phase) h)
 
-  own-unheard : isPropose f ≡ false → heardFrom (paymentFor l f) (l .own .0) ≡ false
+  pub own-unheard : isPropose f ≡ false → heardFrom (paymentFor l f) (l .own .0) ≡ false
   own-unheard k = ⊎-elim (λ x. x .1) (λ x. absurd (one (sym (multicast-waits k) ∙ x .0))) (b .phase)
     where
       one : _≡_ {A = ℕ} 0 1 → ⊥
@@ -100,14 +100,14 @@ module _ (l : Ledger) (f : Incoming) (is-sound : sound l ≡ true) (shape : Shap
       (λ k. ap (λ c. heardFrom (paymentFor l f) (cond c (f .source .0) (l .own .0))) k ∙ own-unheard k)
 
   -- a used place that is the frame's place holds the frame's payment
-  is-payment : (j : ℕ) → j < l .count → j ≡ placeFor l f → paymentFor l f ≡ at (l .payments) j
+  pub is-payment : (j : ℕ) → j < l .count → j ≡ placeFor l f → paymentFor l f ≡ at (l .payments) j
   is-payment j u q =
       split (isHeld l f)
       (λ h. ap either-payment h ∙ ap (at (l .payments)) (sym (q ∙ ap (λ c. cond c (placeOf (l .payments) (f .payment .0)) (l .count)) h)))
       (λ h. let same : j ≡ l .count = q ∙ ap (λ c. cond c (placeOf (l .payments) (f .payment .0)) (l .count)) h in absurd (omega arith))
 
   -- a ledger from 1 to 8 that was heard is not the one that is heard now
-  still-heard : (d q t : ℕ) → 1 ≤ q → q ≤ 8 → HeardTime d q t (paymentFor l f) → HeardTime d q t (heardPayment l f)
+  pub still-heard : (d q t : ℕ) → 1 ≤ q → q ≤ 8 → HeardTime d q t (paymentFor l f) → HeardTime d q t (heardPayment l f)
   still-heard d zero t h₁ h₈ h = absurd (omega arith)
   still-heard d (suc k) t h₁ h₈ h =
       let v = brings l f is-sound shape e .heard in

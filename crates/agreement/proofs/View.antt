@@ -33,15 +33,16 @@ pub record Same (p q : Payment) : Type 0 where
 same-refl : (p : Payment) → Same p p
 same-refl p = record { number = refl; destinations = refl; heard = refl; times = refl }
 
+-- what stands at a place after posting
+pub posted-place : (l : Ledger) (j : ℕ) → j < limit
+    → at (posted-ledger l .payments) j ≡ cond (isFree (l .payments) (l .own .0) j) (nowPosted (at (l .payments) j)) (at (l .payments) j)
+unfolding afterPosting
+posted-place l j h = getD-listed limit _ j noPayment h
+
 -- posting changes nothing but the phase
 posted-same : (l : Ledger) (j : ℕ) → j < limit → Same (at (posted-ledger l .payments) j) (at (l .payments) j)
-unfolding afterPosting
-posted-same l j h =
-    subst (λ p. Same p (at (l .payments) j)) (sym (getD-listed limit now j noPayment h)) (either (isFree (l .payments) (l .own .0) j))
+posted-same l j h = subst (λ p. Same p (at (l .payments) j)) (sym (posted-place l j h)) (either (isFree (l .payments) (l .own .0) j))
   where
-    now : ℕ → Payment
-    now j = cond (isFree (l .payments) (l .own .0) j) (nowPosted (at (l .payments) j)) (at (l .payments) j)
-
     either : (b : Bool) → Same (cond b (nowPosted (at (l .payments) j)) (at (l .payments) j)) (at (l .payments) j)
     either true = record { number = refl; destinations = refl; heard = refl; times = refl }
     either false = same-refl (at (l .payments) j)

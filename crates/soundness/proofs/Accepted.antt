@@ -129,7 +129,7 @@ module _ (l : Ledger) (s : Almost l) (i j : ℕ) (hi : i < limit) (hj : j < limi
       (λ t. let above = ltb-false j i t in
       both (pairs-at (l .payments) (l .count) numbersDiffer (s .numbers) j i hj uj (omega arith)) (ap not (eq-eqb _ _ (sym e))))
 
-unused-number : (p : Payment) → unused p ≡ true → p .number .0 ≡ 0
+pub unused-number : (p : Payment) → unused p ≡ true → p .number .0 ≡ 0
 unfolding unused
 unused-number p e = eqb-true _ _ (and-left (eqb (p .number .0) 0) _ e)
 

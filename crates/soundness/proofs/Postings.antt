@@ -76,7 +76,7 @@ stamps-differ p q own h g a b apart e =
 
 module _ (l : Ledger) (s : Almost l) (range : (1 ≤ l .own .0) × (l .own .0 ≤ 8)) where
   -- a stamped payment is held, and this ledger was heard for it
-  stamped-held : (i : ℕ) → i < limit → at (l .payments) i .phase ≡ 2 → i < l .count
+  pub stamped-held : (i : ℕ) → i < limit → at (l .payments) i .phase ≡ 2 → i < l .count
   stamped-held i h p =
       split (ltb i (l .count)) (λ t. ltb-true _ _ t)
       (λ t. let none : at (l .payments) i .phase ≡ 0 = unused-phase (at (l .payments) i) (unused-at (l .payments) (l .count) (s .unused) i h (ltb-false _ _ t)) in

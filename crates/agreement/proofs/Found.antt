@@ -1,0 +1,69 @@
+-- A payment that is held under a number stands at a used place.
+-- Assumes nothing.
+use Prim.Native.Nat.{ℕ, _<_}
+use mathlib.Core.Path.{_≡_, refl, ap, sym, _∙_, subst}
+use mathlib.Core.Bool.{true, false, cond}
+use native.Mathlib.Nat.{lt-irrefl}
+use lib.Dec.{eqb, ltb}
+use borrow.Author.Tests.{eqb-true, ltb-false, ltb-true}
+use Rattle.common.proofs.TestLaws.{and-left, and-right, both, split}
+use Rattle.payment.specs.Payments.{heardFrom}
+use Rattle.payment.specs.Right.{unused}
+use Rattle.payment.specs.declared.Payment.{Payment}
+use Rattle.payment.proofs.RightLaws.{has-empty}
+use Rattle.held.specs.Held.{at, holds, limit, placeOf}
+use Rattle.held.proofs.ReflectLaws.{unused-at}
+use Rattle.ledger.specs.Refusals.{firstGiven, heldOne, isHeld, judged}
+use Rattle.ledger.specs.Sound.{sound}
+use Rattle.ledger.specs.State.{newPayment}
+use Rattle.ledger.specs.Step.{paymentFor, placeFor}
+use Rattle.ledger.specs.declared.Incoming.{Incoming}
+use Rattle.ledger.specs.declared.Ledger.{Ledger}
+use Rattle.ledger.proofs.JudgeLaws.{place-range}
+use Rattle.ledger.proofs.SoundLaws.{clauses}
+use Rattle.soundness.proofs.Accepted.{found, missing, unused-number}
+use Rattle.agreement.specs.Claims.{Holds}
+
+unused-heard : (p : Payment) → unused p ≡ true → (q : ℕ) → heardFrom p q ≡ false
+unfolding unused
+unused-heard p e q =
+    ap (λ b. heardFrom (record { number = p .number; destinations = p .destinations; heard = b; times = p .times; phase = p .phase }) q)
+    (eqb-true _ _ (and-left (eqb (p .heard) 0) _ (and-right (eqb (p .destinations) 0) _ (and-right (eqb (p .number .0) 0) _ e))))
+    ∙ has-empty q
+
+module _ (l : Ledger) (is-sound : sound l ≡ true) where
+  -- what is not unused is used
+  used-by : (i : ℕ) → i < limit → (unused (at (l .payments) i) ≡ true → ⊥) → i < l .count
+  used-by i h n =
+      split (ltb i (l .count)) (λ t. ltb-true _ _ t)
+      (λ t. absurd (n (unused-at (l .payments) (l .count) (clauses l is-sound .kept .unused) i h (ltb-false _ _ t))))
+
+  pub heard-used : (i q : ℕ) → i < limit → heardFrom (at (l .payments) i) q ≡ true → i < l .count
+  heard-used i q h e = used-by i h (λ u. both e (unused-heard (at (l .payments) i) u q))
+
+  -- held under a number that is not 0: at a used place
+  pub holds-at : (m : ℕ) → (m ≡ 0 → ⊥) → holds (l .payments) m ≡ true → Holds l m (λ p. p ≡ at (l .payments) (placeOf (l .payments) m))
+  holds-at m n e =
+      let h = ltb-true _ _ e in
+      let is = found (l .payments) m e in
+      record {
+        at-place = placeOf (l .payments) m;
+        within = h;
+        used = used-by (placeOf (l .payments) m) h (λ u. n (sym is ∙ unused-number (at (l .payments) (placeOf (l .payments) m)) u));
+        number = is;
+        so = refl;
+      }
+
+  pub at-holds : (m : ℕ) (P : Payment → Type 0) → Holds l m P → holds (l .payments) m ≡ true
+  at-holds m P x = split (holds (l .payments) m) (λ t. t) (λ t. absurd (missing (l .payments) m (x .at-place) t (x .within) (x .number)))
+
+  -- what was heard for the frame's payment stands at its place
+  pub place-heard : (f : Incoming) → firstGiven (judged l f) ≡ 0 → (q : ℕ) → heardFrom (at (l .payments) (placeFor l f)) q ≡ heardFrom (paymentFor l f) q
+  place-heard f e q =
+      split (isHeld l f)
+      (λ h. ap (λ c. heardFrom (at (l .payments) (cond c (placeOf (l .payments) (f .payment .0)) (l .count))) q) h
+      ∙ sym (ap (λ c. heardFrom (cond c (heldOne l f) (newPayment (f .payment .0) (f .destinations))) q) h))
+      (λ h. split (heardFrom (at (l .payments) (placeFor l f)) q)
+      (λ t. let u = heard-used (placeFor l f) q (place-range l f is-sound e) t in
+      absurd (lt-irrefl (l .count) (subst (λ i. i < l .count) (ap (λ c. cond c (placeOf (l .payments) (f .payment .0)) (l .count)) h) u)))
+      (λ t. t ∙ sym (ap (λ c. heardFrom (cond c (heldOne l f) (newPayment (f .payment .0) (f .destinations))) q) h ∙ has-empty q)))
