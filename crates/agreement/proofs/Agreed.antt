@@ -26,7 +26,7 @@ use Rattle.agreement.specs.Claims.{Holds}
 use Rattle.agreement.proofs.Hearing.{Heard, HeardTime, has-from, heard-from, heard-goes, heard-now}
 use Rattle.agreement.proofs.Calls.{Well, answer, by-call, frameOf, heard-stays, view, well-stays}
 use Rattle.agreement.proofs.Written.{copies-from, copies-kept, copies-new, copy-is, newCopy, taken-call}
-use Rattle.agreement.proofs.Copies.{FromDesk, FromLedger, Sent, copyOf, from-desk, from-ledger, in-byte}
+use Rattle.agreement.proofs.Copies.{FromDesk, FromLedger, Sent, copyOf, from-desk, from-ledger, in-byte, other-destination}
 
 -- its destinations are d
 abbrev pub Goes : ℕ → Payment → Type 0
@@ -45,11 +45,6 @@ pub record Agrees (n : ℕ) (table : List Entry) (w : World) : Type 0 where
   pub copied : (x : Written) → In x (w .written) → Sent n table w x
   -- an own time is on record for the other destinations
   pub sent : (q m d t : ℕ) → 1 ≤ q → q ≤ n → Heard (w .ledgers q) m d q t → (without d q ≡ 0 → ⊥) → In (copyOf (entryOf m d) q t) (w .written)
-
--- no ledger is among the others of itself
-not-itself : (d k : ℕ) → d < 2 ^ 8 → k ≤ 8 → has (without d k) k ≡ true → ⊥
-not-itself d zero hd hk t = both t (has-none (without d zero) zero refl)
-not-itself d (suc k) hd hk t = both t (without-has d k k hd (omega arith) (omega arith) ∙ ap (λ b. not b && has d (suc k)) (eq-eqb k k refl))
 
 module _ (n : ℕ) (table : List Entry) (law : Lawful n table) (w : World) (c : Call) (may : May n table w c) (a : Agrees n table w) where
   here : Well n (c .to) (w .ledgers (c .to))
@@ -180,8 +175,8 @@ module _ (n : ℕ) (table : List Entry) (law : Lawful n table) (w : World) (c : 
       ∙ ap (λ x. copyOf (entryOf m x) q t) (sym ed) in
       subst (λ x. In x (called w c .written)) same (copies-new w c k some)))
       (λ o. subst Wrote (sym (o .frame)) (λ m em d ed q eq t et e z.
-      absurd (not-itself (o .sent .entry .destinations) (c .to) (in-byte n table law (o .sent .entry) (o .sent .put-in)) (few (may .ledger .1))
-      (subst (λ x. has (without (o .sent .entry .destinations) x) (c .to) ≡ true) (sym eq ∙ e) (o .recipient)))))
+      absurd (other-destination (o .sent .entry .destinations) (o .sent .writer) (c .to) (in-byte n table law (o .sent .entry) (o .sent .put-in)) (o .sent .from .0) (few (o .sent .from .1))
+      (few (may .ledger .1)) (o .recipient) .0 (sym e ∙ eq))))
       came
 
   sent-next : (q m d t : ℕ) → 1 ≤ q → q ≤ n → Heard (next q) m d q t → (without d q ≡ 0 → ⊥) → In (copyOf (entryOf m d) q t) (called w c .written)

@@ -1,12 +1,18 @@
 -- What may be handed in: each such frame is read as a MULTICAST of the table, or as a PROPOSE with its writer's own time.
 -- Assumes nothing.
-use Prim.Native.Nat.{ℕ, _<_, _≤_, _^_}
+use Prim.Native.Nat.{ℕ, zero, suc, _<_, _≤_, _^_}
 use mathlib.Core.Path.{_≡_, refl, ap, sym, _∙_}
 use mathlib.Core.List.{List, [], _∷_}
-use mathlib.Core.Bool.{true, false}
+use mathlib.Core.Bool.{true, false, not, _&&_}
+use mathlib.Core.Logic.{⊎-elim}
+use native.Mathlib.Nat.{le-trans}
+use lib.Dec.{eqb}
+use Rattle.common.proofs.TestLaws.{and-left, and-right, both}
+use Rattle.payment.proofs.HearLaws.{without-has}
+use Rattle.payment.proofs.LedgerLaws.{has-none}
 use native.Mathlib.Omega.{arith}
 use lib.Pow.{pow-mono}
-use borrow.Author.Tests.{lt-ltb}
+use borrow.Author.Tests.{eq-eqb, lt-ltb}
 use Rattle.frame.specs.Digits.{fitting}
 use Rattle.frame.specs.Frames.{body, frameBytes, frameValues, known, notAFrame, table, valuesOf}
 use Rattle.frame.specs.declared.Frame.the-variants.{Multicast, Propose}
@@ -16,7 +22,7 @@ use Rattle.payment.specs.Payments.{lastTime}
 use Rattle.ledger.specs.Refusals.{incoming}
 use Rattle.ledger.specs.declared.Incoming.{Incoming}
 use Rattle.common.specs.Places.{In}
-use Rattle.agreement.specs.Run.{Call, Written, Entry, Lawful, OfDesk, OfLedger, World}
+use Rattle.agreement.specs.Run.{Call, Written, Entry, Lawful, May, OfDesk, OfLedger, World}
 use Rattle.agreement.proofs.Hearing.{Heard}
 use Rattle.agreement.proofs.Calls.{frameOf}
 
@@ -74,6 +80,14 @@ pub record FromLedger (n : ℕ) (table : List Entry) (w : World) (c : Call) : Ty
   pub frame : frameOf c ≡ ledgerFrame (sent .entry) (sent .writer) (sent .time)
   pub recipient : has (without (sent .entry .destinations) (sent .writer)) (c .to) ≡ true
 
+-- one of the others is a destination, and another one
+pub other-destination : (d q k : ℕ) → d < 2 ^ 8 → 1 ≤ q → q ≤ 8 → k ≤ 8 → has (without d q) k ≡ true → (k ≡ q → ⊥) × (has d k ≡ true)
+other-destination d zero k hd h₁ h₈ hk e = absurd (omega arith)
+other-destination d (suc q) zero hd h₁ h₈ hk e = both e (has-none (without d (suc q)) zero refl)
+other-destination d (suc q) (suc k) hd h₁ h₈ hk e =
+    let t = sym (without-has d q k hd (omega arith) (omega arith)) ∙ e in
+    (λ z. both (and-left (not (eqb k q)) _ t) (ap not (eq-eqb k q (omega (arith, z)))), and-right (not (eqb k q)) _ t)
+
 module _ (n : ℕ) (table : List Entry) (law : Lawful n table) where
   -- destinations are within a byte
   pub in-byte : (e : Entry) → In e table → e .destinations < 2 ^ 8
@@ -111,3 +125,15 @@ module _ (n : ℕ) (table : List Entry) (law : Lawful n table) where
         frame = ap (λ b. incoming (frameValues b)) bytes ∙ ap incoming (read .1);
         recipient = ap (λ x. has (x .recipients) (c .to)) (sym (s .is)) ∙ o .recipient;
       }
+
+  -- what is handed in goes to one of its destinations
+  pub to-destination : (w : World) (c : Call) → ((x : Written) → In x (w .written) → Sent n table w x) → May n table w c → has (frameOf c .destinations) (c .to) ≡ true
+  to-destination w c all may =
+      ⊎-elim
+      (λ o. let f = from-desk c o in ap (λ x. has (x .destinations) (c .to)) (f .frame) ∙ f .destination)
+      (λ o. let f = from-ledger w c all o in
+      let few = law .ledgers .1 in
+      let last = may .ledger .1 in
+      ap (λ x. has (x .destinations) (c .to)) (f .frame)
+      ∙ other-destination (f .sent .entry .destinations) (f .sent .writer) (c .to) (in-byte (f .sent .entry) (f .sent .put-in)) (f .sent .from .0) (le-trans (f .sent .from .1) few) (le-trans last few) (f .recipient) .1)
+      (may .copy)

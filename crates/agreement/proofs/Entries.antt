@@ -4,8 +4,8 @@ use Prim.Native.Nat.{ℕ, zero, suc, _%_, _^_, _<_, _≤_}
 use mathlib.Core.Path.{_≡_, refl, ap, sym, _∙_, subst}
 use mathlib.Core.List.{List, [], _∷_}
 use mathlib.Core.Bool.{true}
-use mathlib.Core.Logic.{⊎-elim}
-use native.Mathlib.Nat.{div-eq-of-lt}
+use mathlib.Core.Logic.{inl, inr, ⊎-elim}
+use native.Mathlib.Nat.{div-eq-of-lt, not-suc-le-zero}
 use native.Mathlib.Omega.{arith}
 use lib.Dec.{eqb, ltb}
 use lib.ListN.{getD, length}
@@ -26,6 +26,11 @@ place-in (x ∷ xs) e h =
     (λ q. (zero, omega arith, sym q))
     (λ t. let r = place-in xs e t in (suc (r .0), omega (arith, r .1), r .2))
     h
+
+pub entry-in : (table : List Entry) (i : ℕ) → i < length table → In (getD table i noEntry) table
+entry-in [] i h = absurd (not-suc-le-zero h)
+entry-in (x ∷ xs) zero h = inl refl
+entry-in (x ∷ xs) (suc i) h = inr (entry-in xs i (omega arith))
 
 -- a ledger among the ledgers of a byte below 2^N is one of 1 to N
 pub in-group : (n d q : ℕ) → d < 2 ^ n → has d q ≡ true → OfGroup n q

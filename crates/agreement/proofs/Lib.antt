@@ -15,3 +15,4 @@ pub mod Agreed
 pub mod Stamps
 pub mod Found
 pub mod Clocks
+pub mod Room
