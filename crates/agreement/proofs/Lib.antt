@@ -16,3 +16,4 @@ pub mod Stamps
 pub mod Found
 pub mod Clocks
 pub mod Room
+pub mod Answers
