@@ -203,11 +203,11 @@ module _ (n : ℕ) (table : List Entry) (law : Lawful n table) where
   lawful : (k : ℕ) → 1 ≤ k → k ≤ n → lawfulSetUp n k ≡ true
   lawful k h₁ hₙ = and-both (le-leb _ _ (law .ledgers .0)) (and-both (le-leb _ _ (law .ledgers .1)) (and-both (le-leb _ _ h₁) (le-leb _ _ hₙ)))
 
-  set-up-is : (k : ℕ) → 1 ≤ k → k ≤ n → setUp n k .state ≡ fresh n k
+  pub set-up-is : (k : ℕ) → 1 ≤ k → k ≤ n → setUp n k .state ≡ fresh n k
   unfolding setUp
   set-up-is k h₁ hₙ = ap (λ b. cond {A = SetUp} b (record { state = fresh n k; answer = 0 }) (record { state = fresh 0 0; answer = 1 }) .state) (lawful k h₁ hₙ)
 
-  nothing-held : (k m : ℕ) (P : Payment → Type 0) → 1 ≤ k → k ≤ n → Holds (setUp n k .state) m P → ⊥
+  pub nothing-held : (k m : ℕ) (P : Payment → Type 0) → 1 ≤ k → k ≤ n → Holds (setUp n k .state) m P → ⊥
   nothing-held k m P h₁ hₙ h = let u = subst (λ l. h .at-place < l .count) (set-up-is k h₁ hₙ) (h .used) in omega arith
 
   agrees-start : Agrees n table (start n)

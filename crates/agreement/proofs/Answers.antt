@@ -52,7 +52,7 @@ module _ (n : ℕ) (table : List Entry) (law : Lawful n table) (w : World) (c : 
   well : Well n (c .to) (w .ledgers (c .to))
   well = a .well (c .to) (may .ledger .0) (may .ledger .1)
 
-  number-right : frameOf c .payment .0 ≡ 0 → ⊥
+  pub number-right : frameOf c .payment .0 ≡ 0 → ⊥
   number-right = law .number _ (of-table n table law w c may a) .0
 
   -- 5
@@ -69,7 +69,7 @@ module _ (n : ℕ) (table : List Entry) (law : Lawful n table) (w : World) (c : 
   held-here = holds-at here (well .is-sound) (frameOf c .payment .0) number-right
 
   -- 8: the destinations are the table's
-  one-way : otherDestinations here (frameOf c) ≡ false
+  pub one-way : otherDestinations here (frameOf c) ≡ false
   one-way =
       split (isHeld here (frameOf c))
       (λ h. let x = held-here h in

@@ -46,6 +46,14 @@ ownTimes l = count limit (λ i. heardFrom (at (l .payments) i) (l .own .0))
 abbrev pub given : ℕ → World → ℕ
 given n w = sumOf n (λ k. ownTimes (w .ledgers (suc k)))
 
+-- an own time is not above the clock
+pub own-time-below : (n q : ℕ) (l : Ledger) → Well n q l → (m d t : ℕ) → Heard l m d q t → t ≤ l .clock .0
+own-time-below n q l well m d t x =
+    let p = at (l .payments) (x .at-place) in
+    subst (λ z. z ≤ l .clock .0) (ap (timeFrom p) (well .own) ∙ x .so .time)
+    (own-below p (l .own .0) (l .clock .0) (ap (heardFrom p) (well .own) ∙ x .so .heard)
+    (each-at (l .payments) (l .count) (notAboveClock (l .own .0) (l .clock .0)) (clauses l (well .is-sound) .kept .clock) (x .at-place) (x .within) (x .used)))
+
 module _ (l : Ledger) (f : Incoming) (is-sound : sound l ≡ true) (shape : Shaped l) (e : firstGiven (judged l f) ≡ 0) (after : Ledger) (v : View l f after)
     (own : (1 ≤ l .own .0) × (l .own .0 ≤ 8)) where
   -- an own time that is given stays
@@ -123,16 +131,7 @@ module _ (n : ℕ) (table : List Entry) (law : Lawful n table) (w : World) (c : 
       (HeardTime (heardPayment before (frameOf c) .destinations) q (timeFrom (heardPayment before (frameOf c)) q)) (heard-lasts _ q _) (record { destinations = refl; heard = h; time = refl }) in
       let there = agrees-next n table law w c may a .agreed (c .to) q _ _ _ (may .ledger .0) (may .ledger .1) (hq .0) (hq .1) now in
       let its = subst (λ l. Heard l (frameOf c .payment .0) (heardPayment before (frameOf c) .destinations) q (timeFrom (heardPayment before (frameOf c)) q)) (at-other w c q e) there in
-      le-trans (own-time q hq _ _ _ its) (le-trans (bound q hq) given-up))
-    where
-      own-time : (q : ℕ) → OfGroup n q → (m d t : ℕ) → Heard (w .ledgers q) m d q t → t ≤ w .ledgers q .clock .0
-      own-time q hq m d t x =
-          let well = a .well q (hq .0) (hq .1) in
-          let p = at (w .ledgers q .payments) (x .at-place) in
-          let own : w .ledgers q .own .0 ≡ q = well .own in
-          subst (λ z. z ≤ w .ledgers q .clock .0) (ap (timeFrom p) own ∙ x .so .time)
-          (own-below p (w .ledgers q .own .0) (w .ledgers q .clock .0) (ap (heardFrom p) own ∙ x .so .heard)
-          (each-at (w .ledgers q .payments) (w .ledgers q .count) (notAboveClock (w .ledgers q .own .0) (w .ledgers q .clock .0)) (clauses _ (well .is-sound) .kept .clock) (x .at-place) (x .within) (x .used)))
+      le-trans (own-time-below n q (w .ledgers q) (a .well q (hq .0) (hq .1)) _ _ _ its) (le-trans (bound q hq) given-up))
 
   stamp-bound : taken-call w c → allHeard (heardPayment before (frameOf c)) ≡ true → stampOf (heardPayment before (frameOf c)) .time .0 ≤ given n (called w c)
   stamp-bound t all =

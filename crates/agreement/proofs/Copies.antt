@@ -108,21 +108,24 @@ module _ (n : ℕ) (table : List Entry) (law : Lawful n table) where
         destination = o .destination;
       }
 
+  -- a ledger's PROPOSE as it is read
+  pub read-propose : (e : Entry) → In e table → (q t : ℕ) → q ≤ n → t ≤ lastTime → (c : Call) → c .frame ≡ copyOf e q t .frame
+      → (notAFrame (c .frame) ≡ false) × (frameOf c ≡ ledgerFrame e q t)
+  read-propose e i q t last early c bytes =
+      let few = law .ledgers .1 in
+      let read = bytes-read (valuesOf (Propose (record { 0 = e .number }) (e .destinations) (record { 0 = q }) (record { 0 = t }))) (both-known .1)
+      (fits-ledger (e .number) (e .destinations) q t (law .number e i .1) (in-byte e i) (omega arith) (omega arith)) in
+      (ap notAFrame bytes ∙ read .0, ap (λ b. incoming (frameValues b)) bytes ∙ ap incoming (read .1))
+
   pub from-ledger : (w : World) (c : Call) → ((x : Written) → In x (w .written) → Sent n table w x) → OfLedger w c → FromLedger n table w c
   from-ledger w c all o =
       let s = all (o .propose) (o .written) in
-      let e = s .entry in
-      let few = law .ledgers .1 in
-      let last = s .from .1 in
-      let early = s .in-time .1 in
-      let bytes = o .frame ∙ ap (λ x. x .frame) (s .is) in
-      let read = bytes-read (valuesOf (Propose (record { 0 = e .number }) (e .destinations) (record { 0 = s .writer }) (record { 0 = s .time }))) (both-known .1)
-      (fits-ledger (e .number) (e .destinations) (s .writer) (s .time) (law .number e (s .put-in) .1) (in-byte e (s .put-in)) (omega arith) (omega arith)) in
+      let read = read-propose (s .entry) (s .put-in) (s .writer) (s .time) (s .from .1) (s .in-time .1) c (o .frame ∙ ap (λ x. x .frame) (s .is)) in
       record {
         propose = o .propose;
         sent = s;
-        is-frame = ap notAFrame bytes ∙ read .0;
-        frame = ap (λ b. incoming (frameValues b)) bytes ∙ ap incoming (read .1);
+        is-frame = read .0;
+        frame = read .1;
         recipient = ap (λ x. has (x .recipients) (c .to)) (sym (s .is)) ∙ o .recipient;
       }
 

@@ -17,3 +17,4 @@ pub mod Found
 pub mod Clocks
 pub mod Room
 pub mod Answers
+pub mod Handed
