@@ -210,7 +210,7 @@ module _ (n : ℕ) (table : List Entry) (law : Lawful n table) where
   pub nothing-held : (k m : ℕ) (P : Payment → Type 0) → 1 ≤ k → k ≤ n → Holds (setUp n k .state) m P → ⊥
   nothing-held k m P h₁ hₙ h = let u = subst (λ l. h .at-place < l .count) (set-up-is k h₁ hₙ) (h .used) in omega arith
 
-  agrees-start : Agrees n table (start n)
+  pub agrees-start : Agrees n table (start n)
   agrees-start =
       record {
         well = λ k h₁ hₙ. subst (Well n k) (sym (set-up-is k h₁ hₙ)) (record {
@@ -224,9 +224,3 @@ module _ (n : ℕ) (table : List Entry) (law : Lawful n table) where
         copied = λ x i. absurd i;
         sent = λ q m d t h₁ hₙ h. absurd (nothing-held q m (HeardTime d q t) h₁ hₙ h);
       }
-
-  -- after every call of a run
-  pub agrees : (cs : List Call) → Calls n table cs → Agrees n table (after n cs)
-  unfolding after
-  agrees [] r = agrees-start
-  agrees (c ∷ cs) r = agrees-next n table law (after n cs) c (r .0) (agrees cs (r .1))

@@ -7,12 +7,12 @@ use mathlib.Core.Bool.{true, false, not, _&&_}
 use mathlib.Core.Logic.{⊎-elim}
 use native.Mathlib.Nat.{le-trans}
 use lib.Dec.{eqb}
-use Rattle.common.proofs.TestLaws.{and-left, and-right, both}
+use Rattle.common.proofs.TestLaws.{and-both, and-left, and-right, both}
 use Rattle.payment.proofs.HearLaws.{without-has}
 use Rattle.payment.proofs.LedgerLaws.{has-none}
 use native.Mathlib.Omega.{arith}
 use lib.Pow.{pow-mono}
-use borrow.Author.Tests.{eq-eqb, lt-ltb}
+use borrow.Author.Tests.{eq-eqb, lt-ltb, ne-eqb}
 use Rattle.frame.specs.Digits.{fitting}
 use Rattle.frame.specs.Frames.{body, frameBytes, frameValues, known, notAFrame, table, valuesOf}
 use Rattle.frame.specs.declared.Frame.the-variants.{Multicast, Propose}
@@ -22,7 +22,7 @@ use Rattle.payment.specs.Payments.{lastTime}
 use Rattle.ledger.specs.Refusals.{incoming}
 use Rattle.ledger.specs.declared.Incoming.{Incoming}
 use Rattle.common.specs.Places.{In}
-use Rattle.agreement.specs.Run.{Call, Written, Entry, Lawful, May, OfDesk, OfLedger, World}
+use Rattle.agreement.specs.Run.{Call, Written, Entry, Lawful, May, OfDesk, OfLedger, World, multicastCopy}
 use Rattle.agreement.proofs.Hearing.{Heard}
 use Rattle.agreement.proofs.Calls.{frameOf}
 
@@ -88,6 +88,13 @@ other-destination d (suc q) (suc k) hd h₁ h₈ hk e =
     let t = sym (without-has d q k hd (omega arith) (omega arith)) ∙ e in
     (λ z. both (and-left (not (eqb k q)) _ t) (ap not (eq-eqb k q (omega (arith, z)))), and-right (not (eqb k q)) _ t)
 
+-- and any other destination is one of the others
+pub among-others : (d q k : ℕ) → d < 2 ^ 8 → 1 ≤ q → q ≤ 8 → k ≤ 8 → (k ≡ q → ⊥) → has d k ≡ true → has (without d q) k ≡ true
+among-others d zero k hd h₁ h₈ hk n e = absurd (omega arith)
+among-others d (suc q) zero hd h₁ h₈ hk n e = both e (has-none d zero refl)
+among-others d (suc q) (suc k) hd h₁ h₈ hk n e =
+    without-has d q k hd (omega arith) (omega arith) ∙ and-both (ap not (ne-eqb k q (λ z. n (ap suc z)))) e
+
 module _ (n : ℕ) (table : List Entry) (law : Lawful n table) where
   -- destinations are within a byte
   pub in-byte : (e : Entry) → In e table → e .destinations < 2 ^ 8
@@ -96,15 +103,20 @@ module _ (n : ℕ) (table : List Entry) (law : Lawful n table) where
       let most : 2 ^ n ≤ 2 ^ 8 = pow-mono {i = n} {j = 8} (law .ledgers .1) in
       omega arith
 
+  -- a desk's MULTICAST as it is read
+  pub read-multicast : (e : Entry) → In e table → (c : Call) → c .frame ≡ multicastCopy e → (notAFrame (c .frame) ≡ false) × (frameOf c ≡ deskFrame e)
+  read-multicast e i c bytes =
+      let read = bytes-read (valuesOf (Multicast (record { 0 = e .number }) (e .destinations))) (both-known .0) (fits-desk (e .number) (e .destinations) (law .number e i .1) (in-byte e i)) in
+      (ap notAFrame bytes ∙ read .0, ap (λ b. incoming (frameValues b)) bytes ∙ ap incoming (read .1))
+
   pub from-desk : (c : Call) → OfDesk table c → FromDesk table c
   from-desk c o =
-      let e = o .entry in
-      let read = bytes-read (valuesOf (Multicast (record { 0 = e .number }) (e .destinations))) (both-known .0) (fits-desk (e .number) (e .destinations) (law .number e (o .put-in) .1) (in-byte e (o .put-in))) in
+      let read = read-multicast (o .entry) (o .put-in) c (o .frame) in
       record {
-        entry = e;
+        entry = o .entry;
         put-in = o .put-in;
-        is-frame = ap notAFrame (o .frame) ∙ read .0;
-        frame = ap (λ b. incoming (frameValues b)) (o .frame) ∙ ap incoming (read .1);
+        is-frame = read .0;
+        frame = read .1;
         destination = o .destination;
       }
 

@@ -1,12 +1,15 @@
 -- Sums and counts over the places below a bound.
 -- Assumes nothing.
-use Prim.Native.Nat.{ℕ, zero, suc, _+_, _*_, _<_, _≤_}
-use mathlib.Core.Path.{_≡_, refl, ap, sym, _∙_, subst}
+use Prim.Native.Nat.{ℕ, zero, suc, _+_, _*_, _^_, _<_, _≤_}
+use mathlib.Core.Path.{_≡_, refl, ap, ap₂, sym, _∙_, subst}
 use mathlib.Core.Bool.{Bool, true, false, cond}
 use native.Mathlib.Nat.{not-suc-le-zero, suc-mul}
 use native.Mathlib.Omega.{arith}
-use Rattle.common.specs.Places.{count}
-use Rattle.common.proofs.PlaceLaws.{last-or-before}
+use lib.Dec.{eqb}
+use borrow.Author.Tests.{eqb-true}
+use Rattle.common.specs.Places.{count, every}
+use Rattle.common.specs.Bits.{bit}
+use Rattle.common.proofs.PlaceLaws.{every-at, last-or-before}
 use Rattle.common.proofs.TestLaws.{both}
 
 -- the sum of f over the places below n
@@ -79,3 +82,20 @@ count-most (suc n) f = let rest = count-most n f in let first = at-most (f n) in
     at-most : (b : Bool) → cond b 1 0 ≤ 1
     at-most true = omega arith
     at-most false = omega arith
+
+sum-same : (n : ℕ) (f g : ℕ → ℕ) → ((k : ℕ) → k < n → f k ≡ g k) → sumOf n f ≡ sumOf n g
+unfolding sumOf
+sum-same zero f g h = refl
+sum-same (suc n) f g h = ap₂ _+_ (h n (omega arith)) (sum-same n f g (λ k l. h k (omega arith)))
+
+-- what a bit adds to its byte
+abbrev weight : ℕ → ℕ → ℕ
+weight d k = cond (bit d k) (2 ^ k) 0
+
+byte-sum : (d : ℕ) → d < 256 → d ≡ sumOf 8 (weight d)
+unfolding every sumOf
+byte-sum d h = eqb-true _ _ (every-at 256 (λ d. eqb d (sumOf 8 (weight d))) refl d h)
+
+-- a byte is known by its bits
+pub same-byte : (a b : ℕ) → a < 256 → b < 256 → ((k : ℕ) → k < 8 → bit a k ≡ bit b k) → a ≡ b
+same-byte a b ha hb e = byte-sum a ha ∙ sum-same 8 (weight a) (weight b) (λ k h. ap (λ x. cond x (2 ^ k) 0) (e k h)) ∙ sym (byte-sum b hb)

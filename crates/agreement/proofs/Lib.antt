@@ -18,3 +18,6 @@ pub mod Clocks
 pub mod Room
 pub mod Answers
 pub mod Handed
+pub mod Invariant
+pub mod Full
+pub mod Theorem

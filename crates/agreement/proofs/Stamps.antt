@@ -18,7 +18,7 @@ use Rattle.payment.specs.declared.Stamp.{Stamp}
 use Rattle.payment.proofs.KeptLaws.{greatest-proposed}
 use Rattle.payment.proofs.LedgerLaws.{place}
 use Rattle.payment.proofs.RightLaws.{later-stamp}
-use Rattle.held.specs.Held.{at}
+use Rattle.held.specs.Held.{at, limit}
 use Rattle.held.proofs.ReflectLaws.{each-at}
 use Rattle.ledger.specs.declared.Ledger.{Ledger}
 use Rattle.ledger.proofs.SoundLaws.{clauses}
@@ -87,6 +87,15 @@ module _ (n : ℕ) (table : List Entry) (law : Lawful n table) (w : World) (a : 
   pub goes-within : (k m d q : ℕ) → OfGroup n k → Holds (w .ledgers k) m (Goes d) → has d q ≡ true → OfGroup n q
   goes-within k m d q hk x e = in-group n d q (law .destinations (entryOf m d) (a .listed k m d (hk .0) (hk .1) x) .1) e
 
+  -- what a ledger holds has this ledger among its destinations
+  pub goes-there : (k : ℕ) → OfGroup n k → (i : ℕ) → i < limit → i < w .ledgers k .count → has (at (w .ledgers k .payments) i .destinations) k ≡ true
+  goes-there k hk i h u =
+      let l = w .ledgers k in
+      let well = a .well k (hk .0) (hk .1) in
+      ap (has (at (l .payments) i .destinations)) (sym (well .own))
+      ∙ own-among (l .group) (l .own .0) (at (l .payments) i .destinations)
+      (not-true _ (each-at (l .payments) (l .count) (lawful (l .group) (l .own .0)) (clauses l (well .is-sound) .kept .destinations) i h u))
+
   module _ (k m : ℕ) (s : Stamp) (hk : OfGroup n k) (x : Stamped (w .ledgers k) m s) where
     abbrev here : Payment
     here = at (w .ledgers k .payments) (x .at-place)
@@ -110,11 +119,7 @@ module _ (n : ℕ) (table : List Entry) (law : Lawful n table) (w : World) (a : 
     in-group-here q h = goes-within k m (here .destinations) q hk goes-here (ap (λ b. has b q) (sym all-here) ∙ h)
 
     own-here : heardFrom here k ≡ true
-    own-here =
-        ap (λ b. has b k) all-here
-        ∙ ap (has (here .destinations)) (sym (well .own))
-        ∙ own-among (w .ledgers k .group) (w .ledgers k .own .0) (here .destinations)
-        (not-true _ (each-at (w .ledgers k .payments) (w .ledgers k .count) (lawful (w .ledgers k .group) (w .ledgers k .own .0)) (clauses _ (well .is-sound) .kept .destinations) (x .at-place) (x .within) (x .used)))
+    own-here = ap (λ b. has b k) all-here ∙ goes-there k hk (x .at-place) (x .within) (x .used)
 
     -- the stamp is some ledger's own time
     stamp-ledger : s .ledger .0 ≡ suc (s .ledger .0 - 1)
