@@ -1,18 +1,16 @@
 -- What holds after every call of a run: ledgers are sound, hold payments of the table, and have of each other only own times.
 -- Assumes nothing.
-use Prim.Native.Nat.{ℕ, zero, suc, _+_, _<_, _≤_, _^_}
+use Prim.Native.Nat.{ℕ, _+_, _<_, _≤_}
 use mathlib.Core.Path.{_≡_, refl, ap, sym, _∙_, subst}
-use mathlib.Core.List.{List, [], _∷_}
-use mathlib.Core.Bool.{true, cond, not, _&&_}
+use mathlib.Core.List.{List}
+use mathlib.Core.Bool.{true, cond}
 use mathlib.Core.Logic.{_⊎_, inl, inr, ⊎-elim}
 use native.Mathlib.Omega.{arith}
-use borrow.Author.Tests.{eq-eqb, le-leb}
-use Rattle.common.proofs.TestLaws.{and-both, both}
-use Rattle.payment.specs.Ledgers.{has, without}
+use borrow.Author.Tests.{le-leb}
+use Rattle.common.proofs.TestLaws.{and-both}
+use Rattle.payment.specs.Ledgers.{without}
 use Rattle.payment.specs.Payments.{lastTime}
 use Rattle.payment.specs.declared.Payment.{Payment}
-use Rattle.payment.proofs.HearLaws.{without-has}
-use Rattle.payment.proofs.LedgerLaws.{has-none}
 use Rattle.ledger.specs.State.{fresh, lawfulSetUp, setUp}
 use Rattle.ledger.specs.Step.{recipientsOf, sent, taken}
 use Rattle.ledger.specs.declared.Incoming.{Incoming}
@@ -21,7 +19,7 @@ use Rattle.ledger.specs.declared.SetUp.{SetUp}
 use Rattle.soundness.proofs.Fresh.{fresh-shaped, fresh-sound}
 use Rattle.soundness.proofs.Kept.{brings, heardClock, speaker, spokenTime}
 use Rattle.common.specs.Places.{In}
-use Rattle.agreement.specs.Run.{Call, Written, Entry, Lawful, Calls, May, World, after, called, start}
+use Rattle.agreement.specs.Run.{Call, Written, Entry, Lawful, May, World, called, start}
 use Rattle.agreement.specs.Claims.{Holds}
 use Rattle.agreement.proofs.Hearing.{Heard, HeardTime, has-from, heard-from, heard-goes, heard-now}
 use Rattle.agreement.proofs.Calls.{Well, answer, by-call, frameOf, heard-stays, view, well-stays}

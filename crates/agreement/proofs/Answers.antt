@@ -1,33 +1,31 @@
 -- In a run only 0 and 9 are answered: no other row of the table applies.
 -- Assumes nothing.
-use Prim.Native.Nat.{ℕ, zero, suc, _*_, _^_, _<_, _≤_}
+use Prim.Native.Nat.{ℕ, _^_, _<_, _≤_}
 use mathlib.Core.Path.{_≡_, refl, ap, sym, _∙_, subst}
 use mathlib.Core.List.{List, [], _∷_}
 use mathlib.Core.Bool.{Bool, true, false, cond, not, _&&_, _||_}
 use mathlib.Core.Logic.{_⊎_, inl, inr, ⊎-elim}
 use native.Mathlib.Nat.{le-trans}
 use native.Mathlib.Omega.{arith}
-use lib.Dec.{eqb, leb, ltb}
-use lib.ListN.{drop, length}
-use borrow.Author.Tests.{eq-eqb, eqb-true, le-leb, le-ltb, lt-leb, ne-eqb, not-false}
-use Rattle.common.specs.Places.{any}
+use lib.ListN.{drop}
+use borrow.Author.Tests.{eq-eqb, eqb-true, le-leb, le-ltb, lt-leb, ne-eqb}
 use Rattle.common.proofs.PlaceLaws.{any-not}
 use Rattle.common.proofs.TestLaws.{and-both, and-false, and-go, and-left, and-right, and-stop, both, or-go, split}
 use Rattle.payment.specs.Ledgers.{has}
-use Rattle.payment.specs.Payments.{hasProposal, heardFrom, isTime, keeps, lastTime, timeFrom, unlawful}
+use Rattle.payment.specs.Payments.{heardFrom, keeps, lastTime, timeFrom, unlawful}
 use Rattle.payment.proofs.KeptLaws.{keeps-proposes}
-use Rattle.held.specs.Held.{at, heldForAnother, isNumber, limit, placeOf}
+use Rattle.held.specs.Held.{at, heldForAnother, isNumber, limit}
 use Rattle.frame.specs.Digits.{sum}
 use Rattle.frame.specs.Frames.{body}
 use Rattle.ledger.specs.Refusals.{Row, anotherTime, badSource, badTime, clockAtEnd, firstGiven, heldOne, isHeld, isPropose, noRoom, otherDestinations, refusals, repeat, row}
 use Rattle.ledger.specs.declared.Incoming.{Incoming}
 use Rattle.ledger.specs.declared.Ledger.{Ledger}
 use Rattle.agreement.specs.Run.{Call, Entry, Lawful, May, World}
-use Rattle.agreement.specs.Claims.{Holds, OfGroup}
-use Rattle.agreement.proofs.Agreed.{Agrees, Goes, came, entryOf, of-table}
+use Rattle.agreement.specs.Claims.{Holds}
+use Rattle.agreement.proofs.Agreed.{Agrees, Goes, came, of-table}
 use Rattle.agreement.proofs.Calls.{Well, answer, frameOf}
 use Rattle.agreement.proofs.Clocks.{given, given-few}
-use Rattle.agreement.proofs.Copies.{FromDesk, FromLedger, in-byte, ledgerFrame, other-destination, to-destination}
+use Rattle.agreement.proofs.Copies.{FromLedger, in-byte, ledgerFrame, other-destination, to-destination}
 use Rattle.agreement.proofs.Entries.{one-entry}
 use Rattle.agreement.proofs.Found.{heard-used, holds-at}
 use Rattle.agreement.proofs.Hearing.{Heard}

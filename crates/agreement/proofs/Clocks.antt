@@ -2,8 +2,8 @@
 -- Assumes nothing.
 use Prim.Native.Nat.{ℕ, zero, suc, _+_, _*_, _<_, _≤_}
 use mathlib.Core.Path.{_≡_, refl, ap, sym, _∙_, subst}
-use mathlib.Core.List.{List, [], _∷_}
-use mathlib.Core.Bool.{Bool, true, false, cond}
+use mathlib.Core.List.{List}
+use mathlib.Core.Bool.{true, false, cond}
 use mathlib.Core.Logic.{⊎-elim}
 use native.Mathlib.Nat.{le-refl, le-trans}
 use native.Mathlib.Omega.{arith}
@@ -25,7 +25,7 @@ use Rattle.ledger.proofs.JudgeLaws.{place-range}
 use Rattle.ledger.proofs.SoundLaws.{clauses}
 use Rattle.soundness.specs.Shaped.{Shaped}
 use Rattle.soundness.proofs.Accepted.{own-below}
-use Rattle.soundness.proofs.Kept.{brings, heardClock, heardPayment, speaker}
+use Rattle.soundness.proofs.Kept.{brings, heardClock, heardPayment}
 use Rattle.soundness.proofs.Replacing.{by-place}
 use Rattle.agreement.specs.Run.{Call, Entry, Lawful, May, World, called}
 use Rattle.agreement.specs.Claims.{OfGroup}

@@ -1,21 +1,21 @@
 -- Once every copy is handed in, each ledger has posted all its payments.
 -- Assumes nothing.
-use Prim.Native.Nat.{ℕ, zero, suc, _*_, _^_, _<_, _≤_}
+use Prim.Native.Nat.{ℕ, suc, _<_, _≤_}
 use mathlib.Core.Path.{_≡_, refl, ap, sym, _∙_, subst}
 use mathlib.Core.List.{List}
-use mathlib.Core.Bool.{Bool, true, false, cond, not, _&&_}
+use mathlib.Core.Bool.{true, not}
 use mathlib.Core.Logic.{⊎-elim}
 use native.Mathlib.Nat.{le-trans}
 use native.Mathlib.Omega.{arith}
-use lib.Dec.{eqb, ltb}
-use borrow.Author.Tests.{eq-eqb, eqb-false, eqb-true, ltb-false, ltb-true, not-true}
+use lib.Dec.{ltb}
+use borrow.Author.Tests.{eq-eqb, eqb-false, eqb-true, ltb-false, ltb-true}
 use Rattle.common.specs.Bits.{bit}
 use Rattle.common.specs.Places.{In}
 use Rattle.common.proofs.PlaceLaws.{any-not, every-at}
-use Rattle.common.proofs.TestLaws.{and-left, both, or-cases, same, split}
-use Rattle.payment.specs.Ledgers.{has, without}
+use Rattle.common.proofs.TestLaws.{both, or-cases, same, split}
+use Rattle.payment.specs.Ledgers.{has}
 use Rattle.payment.specs.Payments.{hasStamp, heardFrom, isPosted, isProposed, isStamped, isWaiting, lastTime, stampOf}
-use Rattle.payment.specs.Right.{heardRight, lawful, phaseRight, timeRight}
+use Rattle.payment.specs.Right.{heardRight, phaseRight, timeRight}
 use Rattle.payment.specs.declared.Payment.{Payment}
 use Rattle.payment.proofs.RightLaws.{has-empty, later-none, proposed-own, right-elsewhere, waiting-own}
 use Rattle.held.specs.Held.{at, limit}
@@ -25,18 +25,18 @@ use Rattle.ledger.specs.declared.Incoming.{Incoming}
 use Rattle.ledger.specs.declared.Ledger.{Ledger}
 use Rattle.ledger.proofs.SoundLaws.{clauses}
 use Rattle.soundness.proofs.Replacing.{by-place, unused-phase}
-use Rattle.agreement.specs.Run.{Call, Calls, Entry, Lawful, OfDesk, World, after, multicastCopy}
-use Rattle.agreement.specs.Claims.{Addressed, AllHandedIn, HandedIn, Holds, OfGroup}
+use Rattle.agreement.specs.Run.{Call, Calls, Entry, Lawful, World, after, multicastCopy}
+use Rattle.agreement.specs.Claims.{AllHandedIn, HandedIn, Holds, OfGroup}
 use Rattle.agreement.proofs.Agreed.{Agrees, Goes, entryOf}
 use Rattle.agreement.proofs.Calls.{Well, frameOf}
 use Rattle.agreement.proofs.Clocks.{own-time-below}
 use Rattle.agreement.proofs.Copies.{among-others, copyOf, deskFrame, in-byte, ledgerFrame, read-multicast, read-propose}
 use Rattle.agreement.proofs.Counts.{same-byte}
 use Rattle.agreement.proofs.Entries.{in-group}
-use Rattle.agreement.proofs.Handed.{Got, spokenBy}
+use Rattle.agreement.proofs.Handed.{Got}
 use Rattle.agreement.proofs.Hearing.{Heard, HeardTime, at-one-place}
 use Rattle.agreement.proofs.Stamps.{goes-there}
-use Rattle.agreement.proofs.Invariant.{Kept, clock-bound, got, kept}
+use Rattle.agreement.proofs.Invariant.{clock-bound, got, kept}
 
 -- heard ones are destinations
 heard-goes : (p : Payment) → heardRight p ≡ true → (k : ℕ) → k < 8 → heardFrom p (suc k) ≡ true → has (p .destinations) (suc k) ≡ true

@@ -5,11 +5,9 @@ use mathlib.Core.Path.{_≡_, refl, ap, sym, _∙_, subst}
 use mathlib.Core.List.{List}
 use mathlib.Core.Bool.{Bool, true, false, cond, not, _&&_}
 use mathlib.Core.Logic.{_⊎_, ⊎-elim}
-use native.Mathlib.Nat.{le-trans}
 use native.Mathlib.Omega.{arith}
 use lib.Dec.{eqb}
-use borrow.Author.Tests.{eqb-false, eqb-true, not-false, not-true}
-use Rattle.common.specs.Places.{In}
+use borrow.Author.Tests.{eqb-true, not-false, not-true}
 use Rattle.common.proofs.TestLaws.{and-go, and-left, and-right, both, split}
 use Rattle.payment.specs.Ledgers.{has}
 use Rattle.payment.specs.Payments.{allHeard, hasProposal, hasStamp, heardFrom, isProposed, isWaiting, timeFrom}
@@ -18,7 +16,6 @@ use Rattle.payment.specs.declared.Payment.{Payment}
 use Rattle.held.specs.Held.{at, limit}
 use Rattle.held.proofs.ReflectLaws.{each-at}
 use Rattle.ledger.specs.Refusals.{heldOne, isHeld, isPropose, repeat}
-use Rattle.ledger.specs.Sound.{sound}
 use Rattle.ledger.specs.declared.Incoming.{Incoming}
 use Rattle.ledger.specs.declared.Ledger.{Ledger}
 use Rattle.ledger.proofs.SoundLaws.{clauses}

@@ -1,17 +1,16 @@
 -- What holds after every call of a run, one field for each idea.
 -- Assumes nothing.
 use Prim.Native.Nat.{ℕ, _*_, _≤_}
-use mathlib.Core.Path.{_≡_, refl, ap, sym, _∙_, subst}
+use mathlib.Core.Path.{_≡_, ap, sym, _∙_, subst}
 use mathlib.Core.List.{List, [], _∷_, _++_, append-assoc, append-nil}
 use mathlib.Core.Logic.{_⊎_, inl, inr, ⊎-elim}
 use native.Mathlib.Nat.{le-trans}
 use native.Mathlib.Omega.{arith}
 use Rattle.common.specs.Places.{In}
 use Rattle.held.specs.Held.{limit}
-use Rattle.ledger.specs.State.{setUp}
 use Rattle.soundness.proofs.Steps.{answer-is}
 use Rattle.agreement.specs.Run.{Call, Calls, Entry, Lawful, World, after, called, start}
-use Rattle.agreement.specs.Claims.{Holds, OfGroup, Stays}
+use Rattle.agreement.specs.Claims.{OfGroup, Stays}
 use Rattle.agreement.proofs.Agreed.{Agrees, agrees-next, agrees-start, nothing-held, set-up-is}
 use Rattle.agreement.proofs.Answers.{zero-or-nine}
 use Rattle.agreement.proofs.Calls.{answer, frameOf, heard-stays}

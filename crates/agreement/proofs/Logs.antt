@@ -1,10 +1,10 @@
 -- A ledger's log: exactly the posted payments, strictly rising by stamp. A taken step keeps it so.
 -- Assumes nothing.
-use Prim.Native.Nat.{ℕ, _<_, _≤_}
+use Prim.Native.Nat.{ℕ, _<_}
 use mathlib.Core.Path.{_≡_, refl, ap, sym, _∙_, subst}
 use mathlib.Core.List.{List, _++_}
 use mathlib.Core.Bool.{Bool, true, false, cond, _||_}
-use mathlib.Core.Logic.{_⊎_, inl, inr, ⊎-elim}
+use mathlib.Core.Logic.{_⊎_, ⊎-elim}
 use borrow.Author.Tests.{eq-eqb}
 use Rattle.common.specs.Places.{In}
 use Rattle.common.proofs.TestLaws.{both, or-true, split}

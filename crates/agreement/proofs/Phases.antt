@@ -12,7 +12,7 @@ use Rattle.common.proofs.TestLaws.{both, split}
 use Rattle.payment.specs.Payments.{allHeard, hasStamp, isPosted}
 use Rattle.payment.specs.declared.Payment.{Payment}
 use Rattle.payment.specs.declared.Stamp.{Stamp}
-use Rattle.held.specs.Held.{at, limit, noPayment}
+use Rattle.held.specs.Held.{at, noPayment}
 use Rattle.held.specs.Posting.{isFree, nowPosted}
 use Rattle.ledger.specs.Refusals.{firstGiven, judged}
 use Rattle.ledger.specs.Sound.{sound}
@@ -25,8 +25,8 @@ use Rattle.soundness.specs.Shaped.{Shaped}
 use Rattle.soundness.proofs.Accepted.{accepted, base}
 use Rattle.soundness.proofs.Kept.{brings, heardOf-open, heardOf-stamped, heardPayment, posted-ledger}
 use Rattle.soundness.proofs.Taking.{place-grown}
-use Rattle.agreement.specs.Claims.{Holds, Stamped, WithStamp}
-use Rattle.agreement.proofs.View.{View, posted-place}
+use Rattle.agreement.specs.Claims.{Stamped, WithStamp}
+use Rattle.agreement.proofs.View.{posted-place}
 use Rattle.agreement.proofs.Hearing.{is-payment}
 
 -- a phase before stamped

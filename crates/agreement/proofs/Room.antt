@@ -1,12 +1,12 @@
 -- There is room: a ledger holds no more payments than the table has for it.
 -- Assumes nothing.
-use Prim.Native.Nat.{ℕ, suc, _+_, _<_, _≤_}
-use mathlib.Core.Path.{_≡_, refl, ap, sym, _∙_, subst}
+use Prim.Native.Nat.{ℕ, _+_, _<_, _≤_}
+use mathlib.Core.Path.{_≡_, ap, sym, _∙_, subst}
 use mathlib.Core.List.{List}
 use mathlib.Core.Bool.{Bool, true, false, cond, _&&_}
 use native.Mathlib.Omega.{arith}
 use lib.ListN.{getD, length}
-use Rattle.common.specs.Places.{In, count}
+use Rattle.common.specs.Places.{count}
 use Rattle.common.proofs.TestLaws.{and-both, and-false, and-left, and-right, split}
 use Rattle.payment.specs.Ledgers.{has}
 use Rattle.payment.specs.declared.Payment.{Payment}
@@ -14,7 +14,7 @@ use Rattle.held.specs.Held.{holds, limit}
 use Rattle.ledger.specs.Refusals.{isHeld}
 use Rattle.ledger.specs.declared.Ledger.{Ledger}
 use Rattle.agreement.specs.Run.{Call, Entry, Lawful, May, World, called, noEntry}
-use Rattle.agreement.specs.Claims.{Holds, OfGroup}
+use Rattle.agreement.specs.Claims.{Holds}
 use Rattle.agreement.proofs.Agreed.{Agrees, agrees-next, entryOf, of-table}
 use Rattle.agreement.proofs.Calls.{Well, by-call, frameOf}
 use Rattle.agreement.proofs.Copies.{to-destination}

@@ -3,11 +3,11 @@
 use Prim.Native.Nat.{ℕ, zero, suc, _-_, _<_, _≤_}
 use mathlib.Core.Path.{_≡_, refl, ap, ap₂, sym, _∙_, subst}
 use mathlib.Core.List.{List}
-use mathlib.Core.Bool.{Bool, true, false, cond, _&&_}
+use mathlib.Core.Bool.{true, cond, _&&_}
 use mathlib.Core.Logic.{⊎-elim}
 use native.Mathlib.Omega.{arith}
 use borrow.Author.Tests.{eqb-true, not-true}
-use Rattle.common.proofs.TestLaws.{both, or-cases, split}
+use Rattle.common.proofs.TestLaws.{or-cases, split}
 use Rattle.frame.specs.declared.Time.{Time}
 use Rattle.payment.specs.Ledgers.{has}
 use Rattle.payment.specs.Payments.{greatest, hasStamp, heardFrom, isPosted, isStamped, proposal, stampOf, timeFrom, timeIn}
@@ -27,9 +27,8 @@ use Rattle.soundness.proofs.Accepted.{apart-pairs}
 use Rattle.soundness.proofs.Postings.{stamp-some}
 use Rattle.soundness.proofs.Replacing.{by-place}
 use Rattle.soundness.proofs.Taking.{own-among}
-use Rattle.common.specs.Places.{In}
 use Rattle.agreement.specs.Run.{Entry, Lawful, World}
-use Rattle.agreement.specs.Claims.{Holds, OfGroup, Stamped, WithStamp}
+use Rattle.agreement.specs.Claims.{Holds, OfGroup, Stamped}
 use Rattle.agreement.proofs.Hearing.{Heard, HeardTime, at-one-place}
 use Rattle.agreement.proofs.Calls.{Well}
 use Rattle.agreement.proofs.Entries.{in-group, one-entry}

@@ -1,9 +1,9 @@
 -- Demand 3, of every run: the theorem.
 -- Assumes nothing.
 use Prim.Native.Nat.{ℕ, _<_}
-use mathlib.Core.Path.{_≡_, refl, ap, sym, _∙_, subst}
-use mathlib.Core.List.{List, _++_}
-use mathlib.Core.Bool.{true, false, _&&_, _||_}
+use mathlib.Core.Path.{_≡_, refl, sym, _∙_, subst}
+use mathlib.Core.List.{List}
+use mathlib.Core.Bool.{true}
 use mathlib.Core.Logic.{_⊎_, inl, inr, ⊎-elim}
 use native.Mathlib.Omega.{arith}
 use lib.Dec.{eqb, ltb}
@@ -19,7 +19,7 @@ use Rattle.agreement.specs.Claims.{Addressed, AllHandedIn, Demand3, Earl
 use Rattle.agreement.proofs.Agreed.{entryOf}
 use Rattle.agreement.proofs.Full.{all-posted, own-given}
 use Rattle.agreement.proofs.Invariant.{Kept, answers-only, kept, stays-always}
-use Rattle.agreement.proofs.Lists.{precedes-either, precedes-in}
+use Rattle.agreement.proofs.Lists.{precedes-either}
 use Rattle.agreement.proofs.Stamps.{goes-there, no-two-alike, one-stamp}
 
 -- what it says that a stamp is below another

@@ -5,7 +5,6 @@ use mathlib.Core.Path.{_≡_}
 use mathlib.Core.List.{List, [], _∷_, _++_}
 use mathlib.Core.Bool.{true}
 use mathlib.Core.Logic.{_⊎_}
-use Rattle.frame.specs.Frames.{frameBytes, valuesOf}
 use Rattle.payment.specs.Ledgers.{has}
 use Rattle.payment.specs.Payments.{hasStamp, stampOf}
 use Rattle.payment.specs.Stamps.{below}

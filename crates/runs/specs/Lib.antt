@@ -1,0 +1,3 @@
+-- The runs that are written out.
+-- Assumes nothing.
+pub mod Runs
