@@ -21,3 +21,4 @@ pub mod Handed
 pub mod Invariant
 pub mod Full
 pub mod Theorem
+pub mod Sources

@@ -50,7 +50,7 @@ module _ (n : ℕ) (table : List Entry) (cs : List Call) (run : Run n table cs) 
   earlier j x y h = k .logs j h .rising x y
 
   -- x is before y by stamp at one ledger, and y before x at another: that cannot be
-  not-both : (i j x y : ℕ) → OfGroup n i → OfGroup n j → Earlier (after n cs .ledgers i) x y → Earlier (after n cs .ledgers j) y x → ⊥
+  pub not-both : (i j x y : ℕ) → OfGroup n i → OfGroup n j → Earlier (after n cs .ledgers i) x y → Earlier (after n cs .ledgers j) y x → ⊥
   not-both i j x y hi hj p q =
       let same-x = one-stamp n table law (after n cs) (k .agrees) i j x (p .first) (q .second) hi hj (p .of-first) (q .of-second) in
       let same-y = one-stamp n table law (after n cs) (k .agrees) i j y (p .second) (q .first) hi hj (p .of-second) (q .of-first) in

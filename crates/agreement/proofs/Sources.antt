@@ -1,0 +1,112 @@
+-- The named properties of source documents 000 and 003, said of our runs: what is one step from demand 3 and from soundness.
+-- Assumes nothing.
+use Prim.Native.Nat.{ℕ, suc, _*_, _<_, _≤_}
+use mathlib.Core.Path.{_≡_, ap₂, sym, _∙_, subst}
+use mathlib.Core.List.{List}
+use mathlib.Core.Bool.{true, not, _&&_}
+use mathlib.Core.Logic.{_⊎_, inl, inr}
+use native.Mathlib.Omega.{arith}
+use lib.Dec.{ltb}
+use borrow.Author.Tests.{ltb-false, ltb-true, not-true}
+use Rattle.common.specs.Places.{In}
+use Rattle.common.proofs.TestLaws.{and-go, and-right, split}
+use Rattle.payment.specs.Payments.{heardFrom, isPosted, proposal, stampOf, timeFrom}
+use Rattle.payment.specs.Right.{notAboveClock}
+use Rattle.payment.specs.Stamps.{below}
+use Rattle.payment.specs.declared.Stamp.{Stamp}
+use Rattle.payment.proofs.GreatestLaws.{greatest-above}
+use Rattle.payment.proofs.StampLaws.{below-tie, below-time, rank}
+use Rattle.held.specs.Held.{at, limit}
+use Rattle.held.proofs.FreeLaws.{behind-proposed}
+use Rattle.held.proofs.ReflectLaws.{each-at, posted-at}
+use Rattle.ledger.proofs.SoundLaws.{clauses}
+use Rattle.agreement.specs.Run.{Call, Entry, Run, after}
+use Rattle.agreement.specs.Claims.{Addressed, Earlier, Holds, OfGroup, Precedes, Stamped}
+use Rattle.agreement.proofs.Hearing.{Heard}
+use Rattle.agreement.proofs.Invariant.{Kept, clock-bound, kept}
+use Rattle.agreement.proofs.Logs.{Posted}
+use Rattle.agreement.proofs.Stamps.{all-here, stamp-heard}
+use Rattle.agreement.proofs.Theorem.{demand-3, not-both}
+
+-- of two stamps that differ one is below the other
+below-or : (a b : Stamp) → (a ≡ b → ⊥) → (below a b ≡ true) ⊎ (below b a ≡ true)
+below-or a b n =
+    split (ltb (a .time .0) (b .time .0)) (λ t. inl (below-time a b (ltb-true _ _ t)))
+    (λ t. split (ltb (b .time .0) (a .time .0)) (λ u. inr (below-time b a (ltb-true _ _ u)))
+    (λ u. let x = ltb-false (a .time .0) (b .time .0) t in
+    let y = ltb-false (b .time .0) (a .time .0) u in
+    let times : a .time .0 ≡ b .time .0 = omega (arith, x, y) in
+    split (ltb (a .ledger .0) (b .ledger .0)) (λ v. inl (below-tie a b times ∙ v))
+    (λ v. split (ltb (b .ledger .0) (a .ledger .0)) (λ z. inr (below-tie b a (sym times) ∙ z))
+    (λ z. let p = ltb-false (a .ledger .0) (b .ledger .0) v in
+    let q = ltb-false (b .ledger .0) (a .ledger .0) z in
+    let ledgers : a .ledger .0 ≡ b .ledger .0 = omega (arith, p, q) in
+    absurd (n (ap₂ (λ t l. record { time = record { 0 = t }; ledger = record { 0 = l } }) times ledgers))))))
+
+module _ (n : ℕ) (table : List Entry) (cs : List Call) (run : Run n table cs) where
+  k : Kept n table (after n cs)
+  k = kept n table (run .lawful) cs (run .calls)
+
+  -- 000: each payment is assigned a single stamp
+  pub same-gts : (p q m : ℕ) (s r : Stamp) → OfGroup n p → OfGroup n q → Stamped (after n cs .ledgers p) m s → Stamped (after n cs .ledgers q) m r → s ≡ r
+  same-gts = demand-3 n table cs run .one-stamp
+
+  -- 000: stamps are unique for each payment
+  pub unique-gts : (p x y : ℕ) (s r : Stamp) → OfGroup n p → (x ≡ y → ⊥) → Stamped (after n cs .ledgers p) x s → Stamped (after n cs .ledgers p) y r → s ≡ r → ⊥
+  unique-gts p x y s r h o a b e = o (demand-3 n table cs run .no-two-alike p p x y s h h a (subst (Stamped (after n cs .ledgers p) y) (sym e) b))
+
+  -- 003: all addressees agree on a stamp, and every payment has its own: the two above; AsymmetricOrdering:
+  pub asymmetric-ordering : (p q x y : ℕ) → OfGroup n p → OfGroup n q → Earlier (after n cs .ledgers p) x y → Earlier (after n cs .ledgers q) y x → ⊥
+  asymmetric-ordering = not-both n table cs run
+
+  -- 003: of two payments that a ledger has stamped one is first (and by AsymmetricOrdering the same one everywhere)
+  pub global-total-ordering : (p x y : ℕ) (s r : Stamp) → OfGroup n p → (x ≡ y → ⊥) → Stamped (after n cs .ledgers p) x s → Stamped (after n cs .ledgers p) y r
+      → (below s r ≡ true) ⊎ (below r s ≡ true)
+  global-total-ordering p x y s r h o a b = below-or s r (unique-gts p x y s r h o a b)
+
+  -- 003: what is posted was put in, for this ledger
+  pub validity : (p m : ℕ) → OfGroup n p → Holds (after n cs .ledgers p) m Posted → Addressed table p m
+  validity p m h x = demand-3 n table cs run .only-its p m h (k .logs p h .complete m x)
+
+  -- 003: what is posted was posted once: it is in the log, and not twice
+  pub integrity : (p m : ℕ) → OfGroup n p → Holds (after n cs .ledgers p) m Posted → In m (after n cs .logs p) × (Precedes m m (after n cs .logs p) → ⊥)
+  integrity p m h x = (k .logs p h .complete m x, demand-3 n table cs run .once p m h)
+
+  -- 003: a stamp comes when every destination is heard, is not below any proposal, is one of them, and its time is not above the clock
+  pub record ValidStamp (p m : ℕ) (s : Stamp) (x : Stamped (after n cs .ledgers p) m s) : Type 0 where
+    pub all-heard : at (after n cs .ledgers p .payments) (x .at-place) .heard ≡ at (after n cs .ledgers p .payments) (x .at-place) .destinations
+    pub greatest : (q : ℕ) → q < 8 → heardFrom (at (after n cs .ledgers p .payments) (x .at-place)) (suc q) ≡ true
+        → rank (proposal (at (after n cs .ledgers p .payments) (x .at-place) .times) (suc q)) ≤ rank s
+    pub proposed : Heard (after n cs .ledgers p) m (at (after n cs .ledgers p .payments) (x .at-place) .destinations) (s .ledger .0) (s .time .0)
+    pub in-time : s .time .0 ≤ after n cs .ledgers p .clock .0
+
+  pub valid-global-ts : (p m : ℕ) (s : Stamp) → OfGroup n p → (x : Stamped (after n cs .ledgers p) m s) → ValidStamp p m s x
+  unfolding notAboveClock
+  valid-global-ts p m s h x =
+      let l = after n cs .ledgers p in
+      let here = at (l .payments) (x .at-place) in
+      let sound = clauses l (k .agrees .well p (h .0) (h .1) .is-sound) .kept in
+      record {
+        all-heard = all-here n table (run .lawful) (after n cs) (k .agrees) p m s h x;
+        greatest = λ q g e. subst (λ r. rank (proposal (here .times) (suc q)) ≤ rank r) (x .so .1) (greatest-above (here .times) (here .heard) 8 (omega arith) q g e);
+        proposed = stamp-heard n table (run .lawful) (after n cs) (k .agrees) p m s h x;
+        in-time = subst (λ r. r .time .0 ≤ l .clock .0) (x .so .1)
+            (ltb-false _ _ (sym (and-go (ltb (l .clock .0) (stampOf here .time .0)) (x .so .0))
+            ∙ not-true _ (and-right (not (heardFrom here (l .own .0) && ltb (l .clock .0) (timeFrom here (l .own .0)))) _
+            (each-at (l .payments) (l .count) (notAboveClock (l .own .0) (l .clock .0)) (sound .clock) (x .at-place) (x .within) (x .used)))));
+      }
+
+  -- 003: a posted stamp's time is below the own time of every payment still proposed
+  pub valid-delivery : (p i j : ℕ) → OfGroup n p → i < limit → j < limit → isPosted (at (after n cs .ledgers p .payments) i) ≡ true
+      → at (after n cs .ledgers p .payments) j .phase ≡ 1
+      → stampOf (at (after n cs .ledgers p .payments) i) .time .0 < timeFrom (at (after n cs .ledgers p .payments) j) p
+  valid-delivery p i j h hi hj posted proposed =
+      let l = after n cs .ledgers p in
+      let well = k .agrees .well p (h .0) (h .1) in
+      subst (λ q. stampOf (at (l .payments) i) .time .0 < timeFrom (at (l .payments) j) q) (well .own)
+      (ltb-true _ _ (sym (behind-proposed (l .own .0) (stampOf (at (l .payments) i)) (at (l .payments) j) proposed)
+      ∙ posted-at (l .payments) (l .own .0) (clauses l (well .is-sound) .kept .posted) i j hi hj posted))
+
+  -- 003: no clock passes its bound
+  pub bounded-clock : (p : ℕ) → OfGroup n p → after n cs .ledgers p .clock .0 ≤ n * limit
+  bounded-clock = clock-bound n table (run .lawful) cs (run .calls)
