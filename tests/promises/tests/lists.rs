@@ -17,6 +17,11 @@ fn every_name_in_unpinned_is_in_the_tree() {
 }
 
 #[test]
+fn every_name_in_sources_is_in_the_tree() {
+    assert_eq!(missing("docs/SOURCES.md"), Vec::<String>::new());
+}
+
+#[test]
 fn every_row_of_promises_says_what_holds_it() {
     let text = fs::read_to_string(root().join("docs/PROMISES.md")).unwrap();
     let rows: Vec<&str> = text.lines().filter(|l| l.starts_with("| ") && !l.starts_with("| sentence")).collect();
