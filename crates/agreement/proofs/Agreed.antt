@@ -92,8 +92,8 @@ module _ (n : ℕ) (table : List Entry) (law : Lawful n table) (w : World) (c : 
   pub of-table : In (entryOf (frameOf c .payment .0) (frameOf c .destinations)) table
   of-table =
       ⊎-elim
-      (λ o. subst (λ f. In (entryOf (f .payment .0) (f .destinations)) table) (sym (o .frame)) (o .put-in))
-      (λ o. subst (λ f. In (entryOf (f .payment .0) (f .destinations)) table) (sym (o .frame)) (o .sent .put-in))
+      (λ o. subst (λ f. In (entryOf (f .payment .0) (f .destinations)) table) (sym (o .frame)) (o .in-table))
+      (λ o. subst (λ f. In (entryOf (f .payment .0) (f .destinations)) table) (sym (o .frame)) (o .sent .in-table))
       came
 
   listed-next : (k m d : ℕ) → 1 ≤ k → k ≤ n → Holds (next k) m (Goes d) → In (entryOf m d) table
@@ -114,7 +114,7 @@ module _ (n : ℕ) (table : List Entry) (law : Lawful n table) (w : World) (c : 
   sent-again x s =
       record {
         entry = s .entry;
-        put-in = s .put-in;
+        in-table = s .in-table;
         writer = s .writer;
         time = s .time;
         is = s .is;
@@ -135,7 +135,7 @@ module _ (n : ℕ) (table : List Entry) (law : Lawful n table) (w : World) (c : 
   new-sent o t z =
       record {
         entry = o .entry;
-        put-in = o .put-in;
+        in-table = o .in-table;
         writer = c .to;
         time = w .ledgers (c .to) .clock .0 + 1;
         is = copy-is w c (o .entry) t (o .frame) z (here .own);
@@ -173,7 +173,7 @@ module _ (n : ℕ) (table : List Entry) (law : Lawful n table) (w : World) (c : 
       ∙ ap (λ x. copyOf (entryOf m x) q t) (sym ed) in
       subst (λ x. In x (called w c .written)) same (copies-new w c k some)))
       (λ o. subst Wrote (sym (o .frame)) (λ m em d ed q eq t et e z.
-      absurd (other-destination (o .sent .entry .destinations) (o .sent .writer) (c .to) (in-byte n table law (o .sent .entry) (o .sent .put-in)) (o .sent .from .0) (few (o .sent .from .1))
+      absurd (other-destination (o .sent .entry .destinations) (o .sent .writer) (c .to) (in-byte n table law (o .sent .entry) (o .sent .in-table)) (o .sent .from .0) (few (o .sent .from .1))
       (few (may .ledger .1)) (o .recipient) .0 (sym e ∙ eq))))
       came
 

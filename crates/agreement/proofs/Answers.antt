@@ -109,7 +109,7 @@ module _ (n : ℕ) (table : List Entry) (law : Lawful n table) (w : World) (c : 
     few h = le-trans h (law .ledgers .1)
 
     another : c .to ≡ o .sent .writer → ⊥
-    another = other-destination d q (c .to) (in-byte n table law (o .sent .entry) (o .sent .put-in)) (o .sent .from .0) (few (o .sent .from .1)) (few (may .ledger .1)) (o .recipient) .0
+    another = other-destination d q (c .to) (in-byte n table law (o .sent .entry) (o .sent .in-table)) (o .sent .from .0) (few (o .sent .from .1)) (few (may .ledger .1)) (o .recipient) .0
 
     source-right : badSource here (ledgerFrame (o .sent .entry) q t) ≡ false
     source-right =
@@ -127,7 +127,7 @@ module _ (n : ℕ) (table : List Entry) (law : Lawful n table) (w : World) (c : 
         split (isHeld here (ledgerFrame (o .sent .entry) q t))
         (λ h. split (heardFrom (heldOne here (ledgerFrame (o .sent .entry) q t)) q)
         (λ e. let p = heldOne here (ledgerFrame (o .sent .entry) q t) in
-        let x = holds-at here (well .is-sound) m (law .number _ (o .sent .put-in) .0) h in
+        let x = holds-at here (well .is-sound) m (law .number _ (o .sent .in-table) .0) h in
         let mine : Heard (w .ledgers (c .to)) m (p .destinations) q (timeFrom p q)
         = record { at-place = x .at-place; within = x .within; used = x .used; number = x .number; so = record { destinations = ap (λ z. z .destinations) (x .so); heard = ap (λ z. heardFrom z q) (x .so) ∙ e; time = ap (λ z. timeFrom z q) (x .so) } } in
         and-go _ h ∙ and-go _ e ∙ ap not (eq-eqb _ _ (one-time n table law w a (c .to) q m _ _ q _ t (may .ledger) (o .sent .from) (o .sent .from) mine (o .sent .heard))))

@@ -56,7 +56,7 @@ both-known = (refl, refl)
 -- a copy on record: who wrote it, and that it holds the writer's own time
 pub record Sent (n : ℕ) (table : List Entry) (w : World) (c : Written) : Type 0 where
   pub entry : Entry
-  pub put-in : In entry table
+  pub in-table : In entry table
   pub writer : ℕ
   pub time : ℕ
   pub is : c ≡ copyOf entry writer time
@@ -68,7 +68,7 @@ pub record Sent (n : ℕ) (table : List Entry) (w : World) (c : Written) : Type 
 -- what a call hands in
 pub record FromDesk (table : List Entry) (c : Call) : Type 0 where
   pub entry : Entry
-  pub put-in : In entry table
+  pub in-table : In entry table
   pub is-frame : notAFrame (c .frame) ≡ false
   pub frame : frameOf c ≡ deskFrame entry
   pub destination : has (entry .destinations) (c .to) ≡ true
@@ -111,10 +111,10 @@ module _ (n : ℕ) (table : List Entry) (law : Lawful n table) where
 
   pub from-desk : (c : Call) → OfDesk table c → FromDesk table c
   from-desk c o =
-      let read = read-multicast (o .entry) (o .put-in) c (o .frame) in
+      let read = read-multicast (o .entry) (o .in-table) c (o .frame) in
       record {
         entry = o .entry;
-        put-in = o .put-in;
+        in-table = o .in-table;
         is-frame = read .0;
         frame = read .1;
         destination = o .destination;
@@ -132,7 +132,7 @@ module _ (n : ℕ) (table : List Entry) (law : Lawful n table) where
   pub from-ledger : (w : World) (c : Call) → ((x : Written) → In x (w .written) → Sent n table w x) → OfLedger w c → FromLedger n table w c
   from-ledger w c all o =
       let s = all (o .propose) (o .written) in
-      let read = read-propose (s .entry) (s .put-in) (s .writer) (s .time) (s .from .1) (s .in-time .1) c (o .frame ∙ ap (λ x. x .frame) (s .is)) in
+      let read = read-propose (s .entry) (s .in-table) (s .writer) (s .time) (s .from .1) (s .in-time .1) c (o .frame ∙ ap (λ x. x .frame) (s .is)) in
       record {
         propose = o .propose;
         sent = s;
@@ -150,5 +150,5 @@ module _ (n : ℕ) (table : List Entry) (law : Lawful n table) where
       let few = law .ledgers .1 in
       let last = may .ledger .1 in
       ap (λ x. has (x .destinations) (c .to)) (f .frame)
-      ∙ other-destination (f .sent .entry .destinations) (f .sent .writer) (c .to) (in-byte (f .sent .entry) (f .sent .put-in)) (f .sent .from .0) (le-trans (f .sent .from .1) few) (le-trans last few) (f .recipient) .1)
+      ∙ other-destination (f .sent .entry .destinations) (f .sent .writer) (c .to) (in-byte (f .sent .entry) (f .sent .in-table)) (f .sent .from .0) (le-trans (f .sent .from .1) few) (le-trans last few) (f .recipient) .1)
       (may .copy)

@@ -1,7 +1,7 @@
 -- What holds after every call of a run, one field for each idea.
 -- Assumes nothing.
 use Prim.Native.Nat.{ℕ, _*_, _≤_}
-use mathlib.Core.Path.{_≡_, ap, sym, _∙_, subst}
+use mathlib.Core.Path.{_≡_, refl, ap, ap₂, sym, _∙_, subst}
 use mathlib.Core.List.{List, [], _∷_, _++_, append-assoc, append-nil}
 use mathlib.Core.Logic.{_⊎_, inl, inr, ⊎-elim}
 use native.Mathlib.Nat.{le-trans}
@@ -9,11 +9,14 @@ use native.Mathlib.Omega.{arith}
 use Rattle.common.specs.Places.{In}
 use Rattle.held.specs.Held.{limit}
 use Rattle.soundness.proofs.Steps.{answer-is}
-use Rattle.agreement.specs.Run.{Call, Calls, Entry, Lawful, World, after, called, start}
-use Rattle.agreement.specs.Claims.{OfGroup, Stays}
-use Rattle.agreement.proofs.Agreed.{Agrees, agrees-next, agrees-start, nothing-held, set-up-is}
+use Rattle.agreement.specs.Run.{Call, Calls, Entry, Lawful, World, after, called, multicastCopy, start}
+use Rattle.agreement.specs.Claims.{HandedIn, OfGroup, Stays}
+use Rattle.agreement.proofs.Agreed.{Agrees, agrees-next, agrees-start, entryOf, nothing-held, set-up-is}
 use Rattle.agreement.proofs.Answers.{zero-or-nine}
-use Rattle.agreement.proofs.Calls.{answer, frameOf, heard-stays}
+use Rattle.agreement.proofs.Calls.{answer, by-call, frameOf, heard-stays}
+use Rattle.agreement.proofs.Copies.{from-ledger, in-byte, other-destination, read-multicast}
+use Rattle.agreement.proofs.Hearing.{Heard, HeardTime, heard-from}
+use Rattle.soundness.proofs.Kept.{speaker}
 use Rattle.agreement.proofs.Clocks.{bound-next, given, given-few}
 use Rattle.agreement.proofs.Handed.{Got, got-now}
 use Rattle.agreement.proofs.Logging.{log-stays, stays-once}
@@ -97,6 +100,34 @@ module _ (n : ℕ) (table : List Entry) (law : Lawful n table) where
         told = g .told;
       })
       i
+
+  -- an own time was asked for: a MULTICAST copy of the payment was handed in
+  pub asked : (cs : List Call) → Calls n table cs → (k m d t : ℕ) → OfGroup n k → Heard (after n cs .ledgers k) m d k t → HandedIn (multicastCopy (entryOf m d)) k cs
+  unfolding after
+  asked [] r k m d t h = λ x. absurd (nothing-held n table law k m (HeardTime d k t) (h .0) (h .1) x)
+  asked (c ∷ cs) r k m d t h =
+      let a = kept cs (r .1) .agrees in
+      let well = a .well (c .to) (r .0 .ledger .0) (r .0 .ledger .1) in
+      by-call (after n cs) c (λ l. Heard l m d k t → HandedIn (multicastCopy (entryOf m d)) k (c ∷ cs)) (well .shape) k
+      (λ x. before (asked cs (r .1) k m d t h x))
+      (λ e u v x. heard-from (after n cs .ledgers (c .to)) (frameOf c) (u .is-sound) (well .shape) (u .unrefused) (called (after n cs) c .ledgers (c .to)) v
+      (HandedIn (multicastCopy (entryOf m d)) k (c ∷ cs)) m d k t (h .0) (le-trans (h .1) (law .ledgers .1)) x
+      (λ old. before (asked cs (r .1) k m d t h (subst (λ j. Heard (after n cs .ledgers j) m d k t) (sym e) old)))
+      (λ em ed es et. ⊎-elim
+      (λ o. let f = read-multicast n table law (o .entry) (o .in-table) c (o .frame) .1 in
+      record {
+        call = c;
+        among = inl refl;
+        to = sym e;
+        bytes = o .frame ∙ ap multicastCopy (ap₂ entryOf (sym (em ∙ ap (λ z. z .payment .0) f)) (sym (ed ∙ ap (λ z. z .destinations) f)));
+      })
+      (λ o. let f = from-ledger n table law (after n cs) c (a .copied) o in
+      absurd (other-destination (f .sent .entry .destinations) (f .sent .writer) (c .to) (in-byte n table law (f .sent .entry) (f .sent .in-table)) (f .sent .from .0) (le-trans (f .sent .from .1) (law .ledgers .1))
+      (le-trans (r .0 .ledger .1) (law .ledgers .1)) (f .recipient) .0 (sym e ∙ es ∙ ap (speaker (after n cs .ledgers (c .to))) (f .frame))))
+      (r .0 .copy)))
+    where
+      before : {x : List ℕ} → HandedIn x k cs → HandedIn x k (c ∷ cs)
+      before x = record { call = x .call; among = inr (x .among); to = x .to; bytes = x .bytes }
 
   -- what has been stamped or posted stays so
   pub stays-always : (cs ds : List Call) → Calls n table (ds ++ cs) → (k : ℕ) → Stays k (after n cs) (after n (ds ++ cs))

@@ -19,6 +19,7 @@ pub mod Room
 pub mod Answers
 pub mod Handed
 pub mod Invariant
+pub mod Order
 pub mod Full
 pub mod Theorem
 pub mod Sources

@@ -19,7 +19,7 @@ use Rattle.soundness.proofs.Replacing.{by-place}
 use Rattle.soundness.proofs.Steps.{is-refused, is-taken}
 use Rattle.soundness.proofs.Taken.{step-posts}
 use Rattle.agreement.specs.Run.{Call, World, called}
-use Rattle.agreement.specs.Claims.{Stamped, Stays}
+use Rattle.agreement.specs.Claims.{HasStamp, Stays}
 use Rattle.agreement.proofs.Calls.{answer, at-other, at-self, frameOf, replaced-other, replaced-self}
 use Rattle.agreement.proofs.Logs.{Log, log-next}
 use Rattle.agreement.proofs.Phases.{stamp-stays}
@@ -77,7 +77,7 @@ module _ (w : World) (c : Call) (shape : Shaped (w .ledgers (c .to))) where
   -- stamps stay, and the log only grows at its end
   pub stays-once : (j : ℕ) → Stays j w (called w c)
   stays-once j =
-      let r = by-log (λ l log. ((m : ℕ) (s : Stamp) → Stamped (w .ledgers j) m s → Stamped l m s) × (added : List ℕ) × (log ≡ w .logs j ++ added)) j
+      let r = by-log (λ l log. ((m : ℕ) (s : Stamp) → HasStamp (w .ledgers j) m s → HasStamp l m s) × (added : List ℕ) × (log ≡ w .logs j ++ added)) j
       ((λ m s x. x), [], sym (append-nil (w .logs j)))
-      (λ e k. ((λ m s x. stamp-stays before (frameOf c) (k .is-sound) shape (k .unrefused) m s (subst (λ i. Stamped (w .ledgers i) m s) e x)), postedNow, ap (λ i. w .logs i ++ postedNow) (sym e))) in
+      (λ e k. ((λ m s x. stamp-stays before (frameOf c) (k .is-sound) shape (k .unrefused) m s (subst (λ i. HasStamp (w .ledgers i) m s) e x)), postedNow, ap (λ i. w .logs i ++ postedNow) (sym e))) in
       record { stamps = r .0; added = r .1; log = r .2 }

@@ -29,7 +29,7 @@ use Rattle.soundness.proofs.Kept.{heard-almost, posted-ledger}
 use Rattle.soundness.proofs.Postings.{posting-all, posting-free, posting-rising, stamped-held}
 use Rattle.soundness.proofs.Rising.{all-has}
 use Rattle.soundness.proofs.Taking.{place-others}
-use Rattle.agreement.specs.Claims.{Earlier, Holds, Precedes, Stamped, WithStamp}
+use Rattle.agreement.specs.Claims.{Earlier, Holds, Precedes, HasStamp, WithStamp}
 use Rattle.agreement.proofs.View.{posted-place}
 use Rattle.agreement.proofs.Lists.{in-append, in-left, in-map, in-right, map-in, precedes-append, precedes-in, precedes-map, rising-precedes}
 use Rattle.agreement.proofs.Phases.{others-stay, same-count, stamp-stays, still-used, unposted-now, unstamped-before}
@@ -46,7 +46,7 @@ pub record Log (l : Ledger) (log : List ℕ) : Type 0 where
   pub rising : (x y : ℕ) → Precedes x y log → Earlier l x y
 
 -- posted payments have a stamp, and so have stamped ones
-posted-stamp : (p : Payment) → isPosted p ≡ true → hasStamp p ≡ true
+pub posted-stamp : (p : Payment) → isPosted p ≡ true → hasStamp p ≡ true
 posted-stamp p e = ap (λ b. isStamped p || b) e ∙ or-true (isStamped p)
 
 module _ (l : Ledger) (f : Incoming) (is-sound : sound l ≡ true) (shape : Shaped l) (e : firstGiven (judged l f) ≡ 0) where
@@ -83,7 +83,7 @@ module _ (l : Ledger) (f : Incoming) (is-sound : sound l ≡ true) (shape : Shap
       }
 
   stamped-next : (i : ℕ) → i < limit → i < mid .count → hasStamp (at (mid .payments) i) ≡ true
-      → Stamped (posted-ledger (afterStamping l f)) (at (mid .payments) i .number .0) (stampOf (at (mid .payments) i))
+      → HasStamp (posted-ledger (afterStamping l f)) (at (mid .payments) i .number .0) (stampOf (at (mid .payments) i))
   stamped-next i h u s = holds-next (WithStamp (stampOf (at (mid .payments) i))) i h u (λ t. (refl, refl)) (λ t. (s, refl))
 
   -- a posted payment stays where it is
@@ -163,8 +163,8 @@ module _ (l : Ledger) (f : Incoming) (is-sound : sound l ≡ true) (shape : Shap
             record {
               first = stampOf (at (mid .payments) i);
               second = stampOf (at (mid .payments) j);
-              of-first = subst (λ n. Stamped (posted-ledger (afterStamping l f)) n (stampOf (at (mid .payments) i))) (sym ex) (stamped-next i hi ui si);
-              of-second = subst (λ n. Stamped (posted-ledger (afterStamping l f)) n (stampOf (at (mid .payments) j))) (sym ey) (stamped-next j hj uj sj);
+              of-first = subst (λ n. HasStamp (posted-ledger (afterStamping l f)) n (stampOf (at (mid .payments) i))) (sym ex) (stamped-next i hi ui si);
+              of-second = subst (λ n. HasStamp (posted-ledger (afterStamping l f)) n (stampOf (at (mid .payments) j))) (sym ey) (stamped-next j hj uj sj);
               below-it = b;
             }
 

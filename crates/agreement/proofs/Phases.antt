@@ -25,7 +25,7 @@ use Rattle.soundness.specs.Shaped.{Shaped}
 use Rattle.soundness.proofs.Accepted.{accepted, base}
 use Rattle.soundness.proofs.Kept.{brings, heardOf-open, heardOf-stamped, heardPayment, posted-ledger}
 use Rattle.soundness.proofs.Taking.{place-grown}
-use Rattle.agreement.specs.Claims.{Stamped, WithStamp}
+use Rattle.agreement.specs.Claims.{HasStamp, WithStamp}
 use Rattle.agreement.proofs.View.{posted-place}
 use Rattle.agreement.proofs.Hearing.{is-payment}
 
@@ -80,7 +80,7 @@ module _ (l : Ledger) (f : Incoming) (is-sound : sound l ≡ true) (shape : Shap
   still-used i u = subst (λ c. i < c) (sym same-count) (let g = place-grown l f in omega arith)
 
   -- a stamp stays
-  pub stamp-stays : (m : ℕ) (s : Stamp) → Stamped l m s → Stamped (posted-ledger (afterStamping l f)) m s
+  pub stamp-stays : (m : ℕ) (s : Stamp) → HasStamp l m s → HasStamp (posted-ledger (afterStamping l f)) m s
   stamp-stays m s x =
       let o = others-stay (x .at-place) (unstamped-before (x .at-place) (x .used) (x .so .0)) in
       let was : (at (afterStamping l f .payments) (x .at-place) .number .0 ≡ m) × WithStamp s (at (afterStamping l f .payments) (x .at-place))

@@ -21,12 +21,13 @@ use Rattle.held.proofs.FreeLaws.{behind-proposed}
 use Rattle.held.proofs.ReflectLaws.{each-at, posted-at}
 use Rattle.ledger.proofs.SoundLaws.{clauses}
 use Rattle.agreement.specs.Run.{Call, Entry, Run, after}
-use Rattle.agreement.specs.Claims.{Addressed, Earlier, Holds, OfGroup, Precedes, Stamped}
+use Rattle.agreement.specs.Claims.{Addressed, Earlier, Holds, OfGroup, Precedes, HasStamp}
 use Rattle.agreement.proofs.Hearing.{Heard}
 use Rattle.agreement.proofs.Invariant.{Kept, clock-bound, kept}
 use Rattle.agreement.proofs.Logs.{Posted}
 use Rattle.agreement.proofs.Stamps.{all-here, stamp-heard}
-use Rattle.agreement.proofs.Theorem.{demand-3, not-both}
+use Rattle.agreement.proofs.Theorem.{demand-3}
+use Rattle.agreement.proofs.Order.{not-both}
 
 -- of two stamps that differ one is below the other
 below-or : (a b : Stamp) → (a ≡ b → ⊥) → (below a b ≡ true) ⊎ (below b a ≡ true)
@@ -48,19 +49,19 @@ module _ (n : ℕ) (table : List Entry) (cs : List Call) (run : Run n table cs) 
   k = kept n table (run .lawful) cs (run .calls)
 
   -- 000: each payment is assigned a single stamp
-  pub same-gts : (p q m : ℕ) (s r : Stamp) → OfGroup n p → OfGroup n q → Stamped (after n cs .ledgers p) m s → Stamped (after n cs .ledgers q) m r → s ≡ r
+  pub same-gts : (p q m : ℕ) (s r : Stamp) → OfGroup n p → OfGroup n q → HasStamp (after n cs .ledgers p) m s → HasStamp (after n cs .ledgers q) m r → s ≡ r
   same-gts = demand-3 n table cs run .one-stamp
 
   -- 000: stamps are unique for each payment
-  pub unique-gts : (p x y : ℕ) (s r : Stamp) → OfGroup n p → (x ≡ y → ⊥) → Stamped (after n cs .ledgers p) x s → Stamped (after n cs .ledgers p) y r → s ≡ r → ⊥
-  unique-gts p x y s r h o a b e = o (demand-3 n table cs run .no-two-alike p p x y s h h a (subst (Stamped (after n cs .ledgers p) y) (sym e) b))
+  pub unique-gts : (p x y : ℕ) (s r : Stamp) → OfGroup n p → (x ≡ y → ⊥) → HasStamp (after n cs .ledgers p) x s → HasStamp (after n cs .ledgers p) y r → s ≡ r → ⊥
+  unique-gts p x y s r h o a b e = o (demand-3 n table cs run .no-two-alike p p x y s h h a (subst (HasStamp (after n cs .ledgers p) y) (sym e) b))
 
   -- 003: all addressees agree on a stamp, and every payment has its own: the two above; AsymmetricOrdering:
   pub asymmetric-ordering : (p q x y : ℕ) → OfGroup n p → OfGroup n q → Earlier (after n cs .ledgers p) x y → Earlier (after n cs .ledgers q) y x → ⊥
-  asymmetric-ordering = not-both n table cs run
+  asymmetric-ordering = not-both n table (run .lawful) (after n cs) k
 
   -- 003: of two payments that a ledger has stamped one is first (and by AsymmetricOrdering the same one everywhere)
-  pub global-total-ordering : (p x y : ℕ) (s r : Stamp) → OfGroup n p → (x ≡ y → ⊥) → Stamped (after n cs .ledgers p) x s → Stamped (after n cs .ledgers p) y r
+  pub global-total-ordering : (p x y : ℕ) (s r : Stamp) → OfGroup n p → (x ≡ y → ⊥) → HasStamp (after n cs .ledgers p) x s → HasStamp (after n cs .ledgers p) y r
       → (below s r ≡ true) ⊎ (below r s ≡ true)
   global-total-ordering p x y s r h o a b = below-or s r (unique-gts p x y s r h o a b)
 
@@ -73,14 +74,14 @@ module _ (n : ℕ) (table : List Entry) (cs : List Call) (run : Run n table cs) 
   integrity p m h x = (k .logs p h .complete m x, demand-3 n table cs run .once p m h)
 
   -- 003: a stamp comes when every destination is heard, is not below any proposal, is one of them, and its time is not above the clock
-  pub record ValidStamp (p m : ℕ) (s : Stamp) (x : Stamped (after n cs .ledgers p) m s) : Type 0 where
+  pub record ValidStamp (p m : ℕ) (s : Stamp) (x : HasStamp (after n cs .ledgers p) m s) : Type 0 where
     pub all-heard : at (after n cs .ledgers p .payments) (x .at-place) .heard ≡ at (after n cs .ledgers p .payments) (x .at-place) .destinations
     pub greatest : (q : ℕ) → q < 8 → heardFrom (at (after n cs .ledgers p .payments) (x .at-place)) (suc q) ≡ true
         → rank (proposal (at (after n cs .ledgers p .payments) (x .at-place) .times) (suc q)) ≤ rank s
     pub proposed : Heard (after n cs .ledgers p) m (at (after n cs .ledgers p .payments) (x .at-place) .destinations) (s .ledger .0) (s .time .0)
     pub in-time : s .time .0 ≤ after n cs .ledgers p .clock .0
 
-  pub valid-global-ts : (p m : ℕ) (s : Stamp) → OfGroup n p → (x : Stamped (after n cs .ledgers p) m s) → ValidStamp p m s x
+  pub valid-global-ts : (p m : ℕ) (s : Stamp) → OfGroup n p → (x : HasStamp (after n cs .ledgers p) m s) → ValidStamp p m s x
   unfolding notAboveClock
   valid-global-ts p m s h x =
       let l = after n cs .ledgers p in

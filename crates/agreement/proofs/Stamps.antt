@@ -28,7 +28,7 @@ use Rattle.soundness.proofs.Postings.{stamp-some}
 use Rattle.soundness.proofs.Replacing.{by-place}
 use Rattle.soundness.proofs.Taking.{own-among}
 use Rattle.agreement.specs.Run.{Entry, Lawful, World}
-use Rattle.agreement.specs.Claims.{Holds, OfGroup, Stamped}
+use Rattle.agreement.specs.Claims.{Holds, OfGroup, HasStamp}
 use Rattle.agreement.proofs.Hearing.{Heard, HeardTime, at-one-place}
 use Rattle.agreement.proofs.Calls.{Well}
 use Rattle.agreement.proofs.Entries.{in-group, one-entry}
@@ -95,7 +95,7 @@ module _ (n : ℕ) (table : List Entry) (law : Lawful n table) (w : World) (a : 
       ∙ own-among (l .group) (l .own .0) (at (l .payments) i .destinations)
       (not-true _ (each-at (l .payments) (l .count) (lawful (l .group) (l .own .0)) (clauses l (well .is-sound) .kept .destinations) i h u))
 
-  module _ (k m : ℕ) (s : Stamp) (hk : OfGroup n k) (x : Stamped (w .ledgers k) m s) where
+  module _ (k m : ℕ) (s : Stamp) (hk : OfGroup n k) (x : HasStamp (w .ledgers k) m s) where
     abbrev here : Payment
     here = at (w .ledgers k .payments) (x .at-place)
 
@@ -117,7 +117,7 @@ module _ (n : ℕ) (table : List Entry) (law : Lawful n table) (w : World) (a : 
     pub in-group-here : (q : ℕ) → heardFrom here q ≡ true → OfGroup n q
     in-group-here q h = goes-within k m (here .destinations) q hk goes-here (ap (λ b. has b q) (sym all-here) ∙ h)
 
-    own-here : heardFrom here k ≡ true
+    pub own-here : heardFrom here k ≡ true
     own-here = ap (λ b. has b k) all-here ∙ goes-there k hk (x .at-place) (x .within) (x .used)
 
     -- the stamp is some ledger's own time
@@ -139,7 +139,7 @@ module _ (n : ℕ) (table : List Entry) (law : Lawful n table) (w : World) (a : 
     pub stamp-heard : Heard (w .ledgers k) m (here .destinations) (s .ledger .0) (s .time .0)
     stamp-heard = subst (Heard (w .ledgers k) m (here .destinations) (s .ledger .0)) (proposed .1) (time-here (s .ledger .0) (proposed .0))
 
-  pub one-stamp : (j k m : ℕ) (s r : Stamp) → OfGroup n j → OfGroup n k → Stamped (w .ledgers j) m s → Stamped (w .ledgers k) m r → s ≡ r
+  pub one-stamp : (j k m : ℕ) (s r : Stamp) → OfGroup n j → OfGroup n k → HasStamp (w .ledgers j) m s → HasStamp (w .ledgers k) m r → s ≡ r
   one-stamp j k m s r hj hk x y =
       let p = at (w .ledgers j .payments) (x .at-place) in
       let q = at (w .ledgers k .payments) (y .at-place) in
@@ -153,7 +153,7 @@ module _ (n : ℕ) (table : List Entry) (law : Lawful n table) (w : World) (a : 
       ∙ ap (λ b. greatest (q .times) b 8) heard
       ∙ y .so .1
 
-  pub no-two-alike : (j k x y : ℕ) (s : Stamp) → OfGroup n j → OfGroup n k → Stamped (w .ledgers j) x s → Stamped (w .ledgers k) y s → x ≡ y
+  pub no-two-alike : (j k x y : ℕ) (s : Stamp) → OfGroup n j → OfGroup n k → HasStamp (w .ledgers j) x s → HasStamp (w .ledgers k) y s → x ≡ y
   no-two-alike j k x y s hj hk u v =
       let q = s .ledger .0 in
       let hq = stamp-of-group j x s hj u in

@@ -13,7 +13,7 @@ use Rattle.payment.specs.declared.Stamp.{Stamp}
 use Rattle.held.specs.Held.{at, limit}
 use Rattle.ledger.specs.declared.Ledger.{Ledger}
 use Rattle.common.specs.Places.{In}
-use Rattle.agreement.specs.Run.{Call, Written, Entry, Calls, World, after, multicastCopy}
+use Rattle.agreement.specs.Run.{Call, Calls, Entry, Run, World, Written, after, multicastCopy}
 
 -- a ledger holds payment m, and P is so of it
 pub record Holds (l : Ledger) (m : ℕ) (P : Payment → Type 0) : Type 0 where
@@ -23,19 +23,20 @@ pub record Holds (l : Ledger) (m : ℕ) (P : Payment → Type 0) : Type 0 where
   pub number : at (l .payments) at-place .number .0 ≡ m
   pub so : P (at (l .payments) at-place)
 
--- a payment is stamped, or posted, with stamp s
+-- stamped or posted, with stamp s
 abbrev pub WithStamp : Stamp → Payment → Type 0
 WithStamp s p = (hasStamp p ≡ true) × (stampOf p ≡ s)
 
-abbrev pub Stamped : Ledger → ℕ → Stamp → Type 0
-Stamped l m s = Holds l m (WithStamp s)
+-- a ledger holds payment m with stamp s
+abbrev pub HasStamp : Ledger → ℕ → Stamp → Type 0
+HasStamp l m s = Holds l m (WithStamp s)
 
--- the stamp of payment x is below that of payment y
+-- at a ledger, the stamp of payment x is below that of payment y
 pub record Earlier (l : Ledger) (x y : ℕ) : Type 0 where
   pub first : Stamp
   pub second : Stamp
-  pub of-first : Stamped l x first
-  pub of-second : Stamped l y second
+  pub of-first : HasStamp l x first
+  pub of-second : HasStamp l y second
   pub below-it : below first second ≡ true
 
 -- x stands before y in a list
@@ -46,7 +47,7 @@ Precedes x y (z ∷ zs) = ((x ≡ z) × In y zs) ⊎ Precedes x y zs
 -- payment m of the table has ledger k among its destinations
 pub record Addressed (table : List Entry) (k m : ℕ) : Type 0 where
   pub entry : Entry
-  pub put-in : In entry table
+  pub in-table : In entry table
   pub number : entry .number ≡ m
   pub destination : has (entry .destinations) k ≡ true
 
@@ -57,7 +58,8 @@ pub record HandedIn (frame : List ℕ) (k : ℕ) (cs : List Call) : Type 0 where
   pub to : call .to ≡ k
   pub bytes : call .frame ≡ frame
 
--- every copy is handed in when each of these has been handed to its ledger at least once
+-- every copy is handed in: each MULTICAST copy of each payment to each destination, and each copy of each written PROPOSE to each
+-- recipient, at least once
 pub record AllHandedIn (n : ℕ) (table : List Entry) (cs : List Call) : Type 0 where
   pub multicasts : (e : Entry) → In e table → (k : ℕ) → has (e .destinations) k ≡ true → HandedIn (multicastCopy e) k cs
   pub proposes : (x : Written) → In x (after n cs .written) → (k : ℕ) → has (x .recipients) k ≡ true → HandedIn (x .frame) k cs
@@ -66,9 +68,9 @@ pub record AllHandedIn (n : ℕ) (table : List Entry) (cs : List Call) : Type 0 
 abbrev pub OfGroup : ℕ → ℕ → Type 0
 OfGroup n k = (1 ≤ k) × (k ≤ n)
 
--- what has been stamped or posted stays so: every stamp is kept, and the log only grows at its end
+-- what has been stamped or posted stays so: every stamp is kept, and what was posted stays at the beginning of the log
 pub record Stays (k : ℕ) (now later : World) : Type 0 where
-  pub stamps : (m : ℕ) (s : Stamp) → Stamped (now .ledgers k) m s → Stamped (later .ledgers k) m s
+  pub stamps : (m : ℕ) (s : Stamp) → HasStamp (now .ledgers k) m s → HasStamp (later .ledgers k) m s
   pub added : List ℕ
   pub log : later .logs k ≡ now .logs k ++ added
 
@@ -78,10 +80,10 @@ pub record Demand3 (n : ℕ) (table : List Entry) (cs : List Call) : Type 0 wher
   pub answers : (a : ℕ) → In a (after n cs .answers) → (a ≡ 0) ⊎ (a ≡ 9)
   -- one stamp per payment wherever it is stamped
   pub one-stamp : (j k m : ℕ) (s r : Stamp) → OfGroup n j → OfGroup n k
-      → Stamped (after n cs .ledgers j) m s → Stamped (after n cs .ledgers k) m r → s ≡ r
+      → HasStamp (after n cs .ledgers j) m s → HasStamp (after n cs .ledgers k) m r → s ≡ r
   -- no two alike, at the same ledger or at two
   pub no-two-alike : (j k x y : ℕ) (s : Stamp) → OfGroup n j → OfGroup n k
-      → Stamped (after n cs .ledgers j) x s → Stamped (after n cs .ledgers k) y s → x ≡ y
+      → HasStamp (after n cs .ledgers j) x s → HasStamp (after n cs .ledgers k) y s → x ≡ y
   -- each ledger's postings strictly rising by stamp
   pub rising : (k x y : ℕ) → OfGroup n k → Precedes x y (after n cs .logs k) → Earlier (after n cs .ledgers k) x y
   -- so no payment is posted twice
@@ -89,9 +91,25 @@ pub record Demand3 (n : ℕ) (table : List Entry) (cs : List Call) : Type 0 wher
   -- and two ledgers have their common payments in the same order
   pub same-order : (j k x y : ℕ) → OfGroup n j → OfGroup n k → Precedes x y (after n cs .logs j)
       → In x (after n cs .logs k) → In y (after n cs .logs k) → Precedes x y (after n cs .logs k)
+  -- and nothing is missing before what is posted: a payment for this ledger whose stamp, at whatever ledger, is below has been posted
+  pub no-gaps : (j k x y : ℕ) (s r : Stamp) → OfGroup n j → OfGroup n k → Addressed table k x → HasStamp (after n cs .ledgers j) x s
+      → In y (after n cs .logs k) → HasStamp (after n cs .ledgers k) y r → below s r ≡ true → Precedes x y (after n cs .logs k)
+  -- what is posted has a stamp
+  pub stamped : (k m : ℕ) → OfGroup n k → In m (after n cs .logs k) → (s : Stamp) × HasStamp (after n cs .ledgers k) m s
   -- a ledger posts only its payments
   pub only-its : (k m : ℕ) → OfGroup n k → In m (after n cs .logs k) → Addressed table k m
-  -- once every copy is handed in each ledger has posted exactly its payments
+  -- of which a MULTICAST copy was handed to it
+  pub asked : (k m : ℕ) → OfGroup n k → In m (after n cs .logs k) → (e : Entry) × In e table × (e .number ≡ m) × HandedIn (multicastCopy e) k cs
+  -- once every copy is handed in each ledger has posted all its payments (with the fields above: exactly these, once each)
   pub all-posted : AllHandedIn n table cs → (k m : ℕ) → OfGroup n k → Addressed table k m → In m (after n cs .logs k)
   -- what has been stamped or posted stays so in every longer run
   pub stays : (ds : List Call) → Calls n table (ds ++ cs) → (k : ℕ) → OfGroup n k → Stays k (after n cs) (after n (ds ++ cs))
+
+-- demand 3 is of every run
+abbrev pub Agreement : Type 0
+Agreement = (n : ℕ) (table : List Entry) (cs : List Call) → Run n table cs → Demand3 n table cs
+
+-- and every run can be gone on with until every copy is handed in
+abbrev pub Completion : Type 0
+Completion = (n : ℕ) (table : List Entry) (cs : List Call) → Run n table cs
+    → (ds : List Call) × Run n table (ds ++ cs) × AllHandedIn n table (ds ++ cs)

@@ -90,7 +90,7 @@ multicastCopy e = frameBytes (valuesOf (Multicast (record { 0 = e .number }) (e 
 -- a MULTICAST copy of a payment, for one of its destinations
 pub record OfDesk (table : List Entry) (c : Call) : Type 0 where
   pub entry : Entry
-  pub put-in : In entry table
+  pub in-table : In entry table
   pub frame : c .frame ≡ multicastCopy entry
   pub destination : has (entry .destinations) (c .to) ≡ true
 

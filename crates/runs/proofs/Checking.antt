@@ -124,7 +124,7 @@ may-so n table w c e =
           (λ t. let r = any-of (λ e. sameBytes (c .frame) (multicastCopy e) && has (e .destinations) (c .to)) table t in
           inl (record {
             entry = r .0;
-            put-in = r .1;
+            in-table = r .1;
             frame = same-bytes (c .frame) (multicastCopy (r .0)) (and-left (sameBytes (c .frame) (multicastCopy (r .0))) _ (r .2));
             destination = and-right (sameBytes (c .frame) (multicastCopy (r .0))) _ (r .2);
           }))

@@ -1,0 +1,151 @@
+-- The order of postings: one at every ledger, and without gaps.
+-- Assumes nothing.
+use Prim.Native.Nat.{ℕ, zero, suc, _+_, _*_, _<_, _≤_}
+use mathlib.Core.Path.{_≡_, refl, ap, sym, _∙_, subst}
+use mathlib.Core.List.{List}
+use mathlib.Core.Bool.{true, false, _||_}
+use mathlib.Core.Logic.{_⊎_, inl, inr, ⊎-elim}
+use native.Mathlib.Omega.{arith}
+use lib.Dec.{eqb, ltb}
+use borrow.Author.Tests.{eqb-false, eqb-true, ltb-true}
+use Rattle.common.specs.Places.{In}
+use Rattle.common.proofs.TestLaws.{and-left, and-right, both, or-cases, split}
+use Rattle.payment.specs.Ledgers.{has}
+use Rattle.payment.specs.Payments.{hasStamp, heardFrom, isPosted, isProposed, isStamped, isWaiting, stampOf, timeFrom}
+use Rattle.payment.specs.Right.{phaseRight}
+use Rattle.payment.specs.Stamps.{below}
+use Rattle.payment.specs.declared.Payment.{Payment}
+use Rattle.payment.specs.declared.Stamp.{Stamp}
+use Rattle.payment.proofs.GreatestLaws.{greatest-above, greatest-ledger}
+use Rattle.payment.proofs.RightLaws.{later-none, waiting-own}
+use Rattle.held.specs.Held.{at}
+use Rattle.held.proofs.FreeLaws.{behind-proposed, behind-stamped}
+use Rattle.held.proofs.ReflectLaws.{each-at, posted-at}
+use Rattle.ledger.specs.declared.Ledger.{Ledger}
+use Rattle.ledger.proofs.SoundLaws.{clauses}
+use Rattle.soundness.proofs.Replacing.{by-place}
+use Rattle.agreement.specs.Run.{Entry, Lawful, World}
+use Rattle.agreement.specs.Claims.{Addressed, Earlier, HasStamp, Holds, OfGroup, Precedes, WithStamp}
+use Rattle.agreement.proofs.Agreed.{Goes, entryOf}
+use Rattle.agreement.proofs.Calls.{Well}
+use Rattle.agreement.proofs.Entries.{one-entry}
+use Rattle.agreement.proofs.Hearing.{Heard, HeardTime, at-one-place}
+use Rattle.agreement.proofs.Invariant.{Kept}
+use Rattle.agreement.proofs.Lists.{precedes-either}
+use Rattle.agreement.proofs.Logs.{Posted}
+use Rattle.agreement.proofs.Stamps.{all-here, goes-here, one-stamp, time-here}
+
+-- what it says that a stamp is below another
+below-says : (a b : Stamp) → below a b ≡ true → (a .time .0 < b .time .0) ⊎ ((a .time .0 ≡ b .time .0) × (a .ledger .0 < b .ledger .0))
+unfolding below
+below-says a b e =
+    ⊎-elim
+    (λ s. inl (ltb-true _ _ s))
+    (λ s. inr (eqb-true _ _ (and-left (eqb (a .time .0) (b .time .0)) _ s), ltb-true _ _ (and-right (eqb (a .time .0) (b .time .0)) _ s)))
+    (or-cases (ltb (a .time .0) (b .time .0)) _ e)
+
+-- no two stamps are each below the other
+below-once : (a b : Stamp) → below a b ≡ true → below b a ≡ true → ⊥
+below-once a b p q =
+    ⊎-elim
+    (λ x. ⊎-elim (λ y. omega (arith, x, y)) (λ y. let z = y .0 in omega (arith, x, z)) (below-says b a q))
+    (λ x. let z = x .0 in let u = x .1 in ⊎-elim (λ y. omega (arith, z, y)) (λ y. let v = y .1 in omega (arith, u, v)) (below-says b a q))
+    (below-says a b p)
+
+below-not-later : (a b : Stamp) → below a b ≡ true → a .time .0 ≤ b .time .0
+below-not-later a b p = ⊎-elim (λ x. omega (arith, x)) (λ x. let z = x .0 in omega (arith, z)) (below-says a b p)
+
+-- a proposal's time is not above the stamp's
+proposal-early : (p : Payment) (q : ℕ) → 1 ≤ q → q ≤ 8 → heardFrom p q ≡ true → timeFrom p q ≤ stampOf p .time .0
+proposal-early p zero h₁ h₈ e = absurd (omega arith)
+proposal-early p (suc q) h₁ h₈ e =
+    let top : timeFrom p (suc q) * 256 + suc q ≤ stampOf p .time .0 * 256 + stampOf p .ledger .0 = greatest-above (p .times) (p .heard) 8 (omega arith) q (omega arith) e in
+    let few : stampOf p .ledger .0 ≤ 8 = greatest-ledger (p .times) (p .heard) 8 in
+    omega (arith, top, few)
+
+module _ (n : ℕ) (table : List Entry) (law : Lawful n table) (w : World) (k : Kept n table w) where
+  pub earlier : (j x y : ℕ) → OfGroup n j → Precedes x y (w .logs j) → Earlier (w .ledgers j) x y
+  earlier j x y h = k .logs j h .rising x y
+
+  -- x is before y by stamp at one ledger, and y before x at another: that cannot be
+  pub not-both : (i j x y : ℕ) → OfGroup n i → OfGroup n j → Earlier (w .ledgers i) x y → Earlier (w .ledgers j) y x → ⊥
+  not-both i j x y hi hj p q =
+      let same-x = one-stamp n table law w (k .agrees) i j x (p .first) (q .second) hi hj (p .of-first) (q .of-second) in
+      let same-y = one-stamp n table law w (k .agrees) i j y (p .second) (q .first) hi hj (p .of-second) (q .of-first) in
+      below-once (p .first) (p .second) (p .below-it)
+      (subst (λ s. below s (p .first) ≡ true) (sym same-y) (subst (λ s. below (q .first) s ≡ true) (sym same-x) (q .below-it)))
+
+  pub never-twice : (j x : ℕ) → OfGroup n j → Precedes x x (w .logs j) → ⊥
+  never-twice j x h p = not-both j j x x h h (earlier j x x h p) (earlier j x x h p)
+
+  pub same-order : (i j x y : ℕ) → OfGroup n i → OfGroup n j → Precedes x y (w .logs i) → In x (w .logs j) → In y (w .logs j) → Precedes x y (w .logs j)
+  same-order i j x y hi hj p inx iny =
+      by-place x y
+      (λ e. absurd (never-twice i x hi (subst (λ z. Precedes x z (w .logs i)) (sym e) p)))
+      (λ e. ⊎-elim (λ q. q)
+      (λ q. absurd (not-both i j x y hi hj (earlier i x y hi p) (earlier j y x hj q)))
+      (precedes-either x y (w .logs j) inx iny e))
+
+  -- a payment for ledger b that is stamped at ledger j has ledger b's own time there and at j
+  own-of : (j b x : ℕ) (s : Stamp) → OfGroup n j → OfGroup n b → Addressed table b x → HasStamp (w .ledgers j) x s
+      → (d : ℕ) × (t : ℕ) × Heard (w .ledgers b) x d b t × (t ≤ s .time .0)
+  own-of j b x s hj hb e u =
+      let p = at (w .ledgers j .payments) (u .at-place) in
+      let same : entryOf x (p .destinations) ≡ e .entry
+      = one-entry n table law _ (e .entry) (k .agrees .listed j x _ (hj .0) (hj .1) (goes-here n table law w (k .agrees) j x s hj u)) (e .in-table) (sym (e .number)) in
+      let is-heard : heardFrom p b ≡ true = ap (λ z. has z b) (all-here n table law w (k .agrees) j x s hj u) ∙ ap (λ z. has (z .destinations) b) same ∙ e .destination in
+      let there = time-here n table law w (k .agrees) j x s hj u b is-heard in (
+        p .destinations,
+        timeFrom p b,
+        k .agrees .agreed j b x _ _ (hj .0) (hj .1) (hb .0) (hb .1) there,
+        subst (λ r. timeFrom p b ≤ r .time .0) (u .so .1) (proposal-early p b (hb .0) (let few = law .ledgers .1 in let last = hb .1 in omega arith) is-heard),
+      )
+
+  -- what is below a posted stamp, and is for this ledger, is posted
+  posted-before : (j b x y : ℕ) (s r : Stamp) → OfGroup n j → OfGroup n b → Addressed table b x → HasStamp (w .ledgers j) x s → In y (w .logs b)
+      → HasStamp (w .ledgers b) y r → below s r ≡ true → In x (w .logs b)
+  posted-before j b x y s r hj hb e u iny v lt =
+      let l = w .ledgers b in
+      let well = k .agrees .well b (hb .0) (hb .1) in
+      let sound = clauses l (well .is-sound) .kept in
+      let own = own-of j b x s hj hb e u in
+      let z = own .2 in
+      let i = z .at-place in
+      let p = at (l .payments) i in
+      let y-at = k .logs b hb .posted y iny in
+      let y-stamp : stampOf (at (l .payments) (y-at .at-place)) ≡ r = at-one-place l (well .is-sound) y Posted (WithStamp r) y-at v .1 in
+      let phase-right = each-at (l .payments) (l .count) (phaseRight (l .own .0)) (sound .phase) i (z .within) (z .used) in
+      let after-y = posted-at (l .payments) (l .own .0) (sound .posted) (y-at .at-place) i (y-at .within) (z .within) (y-at .so) in
+      let own-heard : heardFrom p (l .own .0) ≡ true = ap (heardFrom p) (well .own) ∙ z .so .heard in
+      split (isWaiting p)
+      (λ t. both phase-right (waiting-own (l .own .0) p (eqb-true _ _ t) own-heard))
+      (λ t. split (isProposed p)
+      (λ q. let late = ltb-true _ _ (sym (behind-proposed (l .own .0) (stampOf (at (l .payments) (y-at .at-place))) p (eqb-true _ _ q)) ∙ after-y) in
+      let late′ : r .time .0 < own .1 = subst (λ f. f .time .0 < own .1) y-stamp (subst (λ h. stampOf (at (l .payments) (y-at .at-place)) .time .0 < h) (ap (timeFrom p) (well .own) ∙ z .so .time) late) in
+      let early = own .3 in
+      let not-later = below-not-later s r lt in
+      absurd (omega (arith, late′, early, not-later)))
+      (λ q. split (hasStamp p)
+      (λ a. ⊎-elim
+      (λ two. let x-here : HasStamp (w .ledgers b) x (stampOf p) = record { at-place = i; within = z .within; used = z .used; number = z .number; so = (a, refl) } in
+      let same = one-stamp n table law w (k .agrees) j b x s (stampOf p) hj hb u x-here in
+      let over = sym (behind-stamped (l .own .0) (stampOf (at (l .payments) (y-at .at-place))) p (eqb-true _ _ two)) ∙ after-y in
+      absurd (below-once s r lt (subst (λ f. below f s ≡ true) y-stamp (subst (λ f. below (stampOf (at (l .payments) (y-at .at-place))) f ≡ true) (sym same) over))))
+      (λ three. k .logs b hb .complete x (record { at-place = i; within = z .within; used = z .used; number = z .number; so = three }))
+      (or-cases (isStamped p) (isPosted p) a))
+      (λ a. both phase-right (later-none (l .own .0) p (eqb-false _ _ t) (eqb-false _ _ q) a))))
+
+  pub no-gaps : (j b x y : ℕ) (s r : Stamp) → OfGroup n j → OfGroup n b → Addressed table b x → HasStamp (w .ledgers j) x s → In y (w .logs b)
+      → HasStamp (w .ledgers b) y r → below s r ≡ true → Precedes x y (w .logs b)
+  no-gaps j b x y s r hj hb e u iny v lt =
+      by-place x y
+      (λ q. absurd (apart (one-stamp n table law w (k .agrees) j b x s r hj hb u (subst (λ m. HasStamp (w .ledgers b) m r) (sym q) v))))
+      (λ q. ⊎-elim (λ p. p)
+      (λ p. let back = earlier b y x hb p in
+      let same-y = one-stamp n table law w (k .agrees) b b y (back .first) r hb hb (back .of-first) v in
+      let same-x = one-stamp n table law w (k .agrees) b j x (back .second) s hb hj (back .of-second) u in
+      absurd (below-once s r lt (subst (λ f. below f s ≡ true) same-y (subst (λ f. below (back .first) f ≡ true) same-x (back .below-it)))))
+      (precedes-either x y (w .logs b) (posted-before j b x y s r hj hb e u iny v lt) iny q))
+    where
+      apart : s ≡ r → ⊥
+      apart q = below-once s r lt (subst (λ f. below f s ≡ true) q (subst (λ f. below s f ≡ true) (sym q) lt))
