@@ -107,7 +107,7 @@ module _ (n : ℕ) (table : List Entry) (law : Lawful n table) (w : World) (c : 
       (subst (λ x. In (entryOf x (frameOf c .destinations)) table) (sym em) of-table)))
 
   -- a PROPOSE that is handed in makes no copy
-  no-copy : FromLedger n table w c → taken-call w c → newCopy w c .recipients ≡ 0
+  pub no-copy : FromLedger n table w c → taken-call w c → newCopy w c .recipients ≡ 0
   no-copy o t = ap (λ x. x .recipients) (t .so) ∙ ap (recipientsOf (w .ledgers (c .to))) (o .frame)
 
   sent-again : (x : Written) → Sent n table w x → Sent n table (called w c) x

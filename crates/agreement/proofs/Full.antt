@@ -46,7 +46,7 @@ heard-goes p r k h e =
     (λ t. both (every-at 8 (λ k. timeRight p (suc k)) r k h) (right-elsewhere p (suc k) e t))
 
 -- a payment whose destinations are all heard has a stamp
-all-stamped : (own : ℕ) (p : Payment) → phaseRight own p ≡ true → heardFrom p own ≡ true → p .heard ≡ p .destinations → hasStamp p ≡ true
+pub all-stamped : (own : ℕ) (p : Payment) → phaseRight own p ≡ true → heardFrom p own ≡ true → p .heard ≡ p .destinations → hasStamp p ≡ true
 all-stamped own p r h e =
     split (isWaiting p)
     (λ t. both r (waiting-own own p (eqb-true _ _ t) h))

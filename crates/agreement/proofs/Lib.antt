@@ -21,5 +21,6 @@ pub mod Handed
 pub mod Invariant
 pub mod Order
 pub mod Full
+pub mod Completion
 pub mod Theorem
 pub mod Sources

@@ -3,7 +3,7 @@
 use Prim.Native.Nat.{ℕ, zero, suc, _+_, _*_, _<_, _≤_}
 use mathlib.Core.Path.{_≡_, refl, ap, sym, _∙_, subst}
 use mathlib.Core.List.{List}
-use mathlib.Core.Bool.{true, false, _||_}
+use mathlib.Core.Bool.{true}
 use mathlib.Core.Logic.{_⊎_, inl, inr, ⊎-elim}
 use native.Mathlib.Omega.{arith}
 use lib.Dec.{eqb, ltb}
@@ -21,15 +21,13 @@ use Rattle.payment.proofs.RightLaws.{later-none, waiting-own}
 use Rattle.held.specs.Held.{at}
 use Rattle.held.proofs.FreeLaws.{behind-proposed, behind-stamped}
 use Rattle.held.proofs.ReflectLaws.{each-at, posted-at}
-use Rattle.ledger.specs.declared.Ledger.{Ledger}
 use Rattle.ledger.proofs.SoundLaws.{clauses}
 use Rattle.soundness.proofs.Replacing.{by-place}
 use Rattle.agreement.specs.Run.{Entry, Lawful, World}
-use Rattle.agreement.specs.Claims.{Addressed, Earlier, HasStamp, Holds, OfGroup, Precedes, WithStamp}
-use Rattle.agreement.proofs.Agreed.{Goes, entryOf}
-use Rattle.agreement.proofs.Calls.{Well}
+use Rattle.agreement.specs.Claims.{Addressed, Earlier, HasStamp, OfGroup, Precedes, WithStamp}
+use Rattle.agreement.proofs.Agreed.{entryOf}
 use Rattle.agreement.proofs.Entries.{one-entry}
-use Rattle.agreement.proofs.Hearing.{Heard, HeardTime, at-one-place}
+use Rattle.agreement.proofs.Hearing.{Heard, at-one-place}
 use Rattle.agreement.proofs.Invariant.{Kept}
 use Rattle.agreement.proofs.Lists.{precedes-either}
 use Rattle.agreement.proofs.Logs.{Posted}

@@ -1,7 +1,7 @@
 -- The named properties of source documents 000 and 003, said of our runs: what is one step from demand 3 and from soundness.
 -- Assumes nothing.
 use Prim.Native.Nat.{ℕ, suc, _*_, _<_, _≤_}
-use mathlib.Core.Path.{_≡_, ap₂, sym, _∙_, subst}
+use mathlib.Core.Path.{_≡_, ap, ap₂, sym, _∙_, subst}
 use mathlib.Core.List.{List}
 use mathlib.Core.Bool.{true, not, _&&_}
 use mathlib.Core.Logic.{_⊎_, inl, inr}
@@ -10,7 +10,7 @@ use lib.Dec.{ltb}
 use borrow.Author.Tests.{ltb-false, ltb-true, not-true}
 use Rattle.common.specs.Places.{In}
 use Rattle.common.proofs.TestLaws.{and-go, and-right, split}
-use Rattle.payment.specs.Payments.{heardFrom, isPosted, proposal, stampOf, timeFrom}
+use Rattle.payment.specs.Payments.{hasStamp, heardFrom, isPosted, proposal, stampOf, timeFrom}
 use Rattle.payment.specs.Right.{notAboveClock}
 use Rattle.payment.specs.Stamps.{below}
 use Rattle.payment.specs.declared.Stamp.{Stamp}
@@ -20,12 +20,15 @@ use Rattle.held.specs.Held.{at, limit}
 use Rattle.held.proofs.FreeLaws.{behind-proposed}
 use Rattle.held.proofs.ReflectLaws.{each-at, posted-at}
 use Rattle.ledger.proofs.SoundLaws.{clauses}
-use Rattle.agreement.specs.Run.{Call, Entry, Run, after}
-use Rattle.agreement.specs.Claims.{Addressed, Earlier, Holds, OfGroup, Precedes, HasStamp}
+use Rattle.agreement.specs.Run.{Call, Entry, Run, after, multicastCopy}
+use Rattle.agreement.specs.Claims.{Addressed, Earlier, HandedIn, Holds, OfGroup, Precedes, HasStamp}
 use Rattle.agreement.proofs.Hearing.{Heard}
 use Rattle.agreement.proofs.Invariant.{Kept, clock-bound, kept}
 use Rattle.agreement.proofs.Logs.{Posted}
-use Rattle.agreement.proofs.Stamps.{all-here, stamp-heard}
+use Rattle.agreement.proofs.Stamps.{all-here, goes-there, stamp-heard, stamp-of-group}
+use Rattle.agreement.proofs.Full.{all-stamped}
+use Rattle.payment.specs.Ledgers.{has}
+use Rattle.payment.specs.Right.{phaseRight}
 use Rattle.agreement.proofs.Theorem.{demand-3}
 use Rattle.agreement.proofs.Order.{not-both}
 
@@ -65,20 +68,34 @@ module _ (n : ℕ) (table : List Entry) (cs : List Call) (run : Run n table cs) 
       → (below s r ≡ true) ⊎ (below r s ≡ true)
   global-total-ordering p x y s r h o a b = below-or s r (unique-gts p x y s r h o a b)
 
-  -- 003: what is posted was put in, for this ledger
-  pub validity : (p m : ℕ) → OfGroup n p → Holds (after n cs .ledgers p) m Posted → Addressed table p m
-  validity p m h x = demand-3 n table cs run .only-its p m h (k .logs p h .complete m x)
+  -- 003: what is posted was multicast: it is a payment of the table for this ledger, and a MULTICAST copy of it was handed in here
+  pub validity : (p m : ℕ) → OfGroup n p → Holds (after n cs .ledgers p) m Posted
+      → Addressed table p m × ((e : Entry) × In e table × (e .number ≡ m) × HandedIn (multicastCopy e) p cs)
+  validity p m h x =
+      let i = k .logs p h .complete m x in
+      (demand-3 n table cs run .only-its p m h i, demand-3 n table cs run .asked p m h i)
 
-  -- 003: what is posted was posted once: it is in the log, and not twice
-  pub integrity : (p m : ℕ) → OfGroup n p → Holds (after n cs .ledgers p) m Posted → In m (after n cs .logs p) × (Precedes m m (after n cs .logs p) → ⊥)
-  integrity p m h x = (k .logs p h .complete m x, demand-3 n table cs run .once p m h)
+  -- 003: posted means in the log, and once
+  pub integrity : (p m : ℕ) → OfGroup n p
+      → (Holds (after n cs .ledgers p) m Posted → In m (after n cs .logs p)) × (In m (after n cs .logs p) → Holds (after n cs .ledgers p) m Posted) × (Precedes m m (after n cs .logs p) → ⊥)
+  integrity p m h = (k .logs p h .complete m, k .logs p h .posted m, demand-3 n table cs run .once p m h)
 
-  -- 003: a stamp comes when every destination is heard, is not below any proposal, is one of them, and its time is not above the clock
+  -- 003: a payment is stamped once every destination is heard
+  pub committed-when-heard : (p i : ℕ) → OfGroup n p → i < limit → i < after n cs .ledgers p .count
+      → at (after n cs .ledgers p .payments) i .heard ≡ at (after n cs .ledgers p .payments) i .destinations → hasStamp (at (after n cs .ledgers p .payments) i) ≡ true
+  committed-when-heard p i h hi u e =
+      let l = after n cs .ledgers p in
+      let well = k .agrees .well p (h .0) (h .1) in
+      all-stamped (l .own .0) (at (l .payments) i) (each-at (l .payments) (l .count) (phaseRight (l .own .0)) (clauses l (well .is-sound) .kept .phase) i hi u)
+      (ap (λ b. has b (l .own .0)) e ∙ ap (has (at (l .payments) i .destinations)) (well .own) ∙ goes-there n table (run .lawful) (after n cs) (k .agrees) p h i hi u) e
+
+  -- 003: and then only; a stamp is not below any proposal, is one of them, which is the own time of the ledger it names, and its time is
+  -- not above the clock
   pub record ValidStamp (p m : ℕ) (s : Stamp) (x : HasStamp (after n cs .ledgers p) m s) : Type 0 where
     pub all-heard : at (after n cs .ledgers p .payments) (x .at-place) .heard ≡ at (after n cs .ledgers p .payments) (x .at-place) .destinations
     pub greatest : (q : ℕ) → q < 8 → heardFrom (at (after n cs .ledgers p .payments) (x .at-place)) (suc q) ≡ true
         → rank (proposal (at (after n cs .ledgers p .payments) (x .at-place) .times) (suc q)) ≤ rank s
-    pub proposed : Heard (after n cs .ledgers p) m (at (after n cs .ledgers p .payments) (x .at-place) .destinations) (s .ledger .0) (s .time .0)
+    pub own : Heard (after n cs .ledgers (s .ledger .0)) m (at (after n cs .ledgers p .payments) (x .at-place) .destinations) (s .ledger .0) (s .time .0)
     pub in-time : s .time .0 ≤ after n cs .ledgers p .clock .0
 
   pub valid-global-ts : (p m : ℕ) (s : Stamp) → OfGroup n p → (x : HasStamp (after n cs .ledgers p) m s) → ValidStamp p m s x
@@ -90,7 +107,8 @@ module _ (n : ℕ) (table : List Entry) (cs : List Call) (run : Run n table cs) 
       record {
         all-heard = all-here n table (run .lawful) (after n cs) (k .agrees) p m s h x;
         greatest = λ q g e. subst (λ r. rank (proposal (here .times) (suc q)) ≤ rank r) (x .so .1) (greatest-above (here .times) (here .heard) 8 (omega arith) q g e);
-        proposed = stamp-heard n table (run .lawful) (after n cs) (k .agrees) p m s h x;
+        own = let g = stamp-of-group n table (run .lawful) (after n cs) (k .agrees) p m s h x in
+            k .agrees .agreed p (s .ledger .0) m _ _ (h .0) (h .1) (g .0) (g .1) (stamp-heard n table (run .lawful) (after n cs) (k .agrees) p m s h x);
         in-time = subst (λ r. r .time .0 ≤ l .clock .0) (x .so .1)
             (ltb-false _ _ (sym (and-go (ltb (l .clock .0) (stampOf here .time .0)) (x .so .0))
             ∙ not-true _ (and-right (not (heardFrom here (l .own .0) && ltb (l .clock .0) (timeFrom here (l .own .0)))) _

@@ -1,19 +1,12 @@
 -- Demand 3, of every run: the theorem.
 -- Assumes nothing.
-use Prim.Native.Nat.{ℕ, _<_}
-use mathlib.Core.Path.{_≡_, refl, sym, _∙_, subst}
+use Prim.Native.Nat.{ℕ}
+use mathlib.Core.Path.{_≡_, refl, _∙_}
 use mathlib.Core.List.{List}
-use mathlib.Core.Bool.{true}
-use mathlib.Core.Logic.{_⊎_, inl, inr, ⊎-elim}
-use native.Mathlib.Omega.{arith}
-use lib.Dec.{eqb, ltb}
-use borrow.Author.Tests.{eqb-true, ltb-true}
 use Rattle.common.specs.Places.{In}
-use Rattle.common.proofs.TestLaws.{and-left, and-right, or-cases}
 use Rattle.payment.specs.Payments.{stampOf}
 use Rattle.payment.specs.declared.Stamp.{Stamp}
 use Rattle.held.specs.Held.{at}
-use Rattle.soundness.proofs.Replacing.{by-place}
 use Rattle.agreement.specs.Run.{Call, Entry, Lawful, Run, after, multicastCopy}
 use Rattle.agreement.specs.Claims.{Addressed, Agreement, AllHandedIn, Demand3, HandedIn, HasStamp, OfGroup}
 use Rattle.agreement.proofs.Agreed.{entryOf}
