@@ -1,0 +1,4 @@
+-- Laws of the drill's records.
+-- Assumes nothing.
+pub mod RecordLaws
+pub mod Settled

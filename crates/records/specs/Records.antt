@@ -1,0 +1,109 @@
+-- Document 01, "The drill": the records, and what each does to the ledgers.
+-- Assumes nothing.
+use Prim.Native.Nat.{ℕ, suc, _+_, _-_}
+use mathlib.Core.List.{List, [], _∷_}
+use mathlib.Core.Bool.{Bool, not, _&&_, _||_, cond}
+use lib.ListN.{length, getD, take, drop, set, replicate}
+use lib.Dec.{eqb, leb, ltb}
+use Rattle.common.specs.Places.{listed}
+use Rattle.frame.specs.Digits.{sum}
+use Rattle.frame.specs.Frames.{Row, body, kindIn, known, multicast, propose}
+use Rattle.ledger.specs.State.{fresh, setUp}
+use Rattle.ledger.specs.Step.{step}
+use Rattle.ledger.specs.declared.Ledger.{Ledger}
+use Rattle.records.specs.declared.Did.{Did}
+use Rattle.records.specs.declared.Did.the-variants.{SetUp, Step, Stop}
+use Rattle.records.specs.declared.Group.{Group}
+use Rattle.records.specs.declared.Turn.{Turn}
+
+-- kind 16, body N
+abbrev pub setUpRecord : Row
+setUpRecord = record { kind = 16; body = 1 ∷ [] }
+
+-- kind 17, body target ledger and a MULTICAST's 5 body bytes
+abbrev pub multicastRecord : Row
+multicastRecord = record { kind = 17; body = 1 ∷ multicast .body }
+
+-- kind 18, target and a PROPOSE's 8
+abbrev pub proposeRecord : Row
+proposeRecord = record { kind = 18; body = 1 ∷ propose .body }
+
+abbrev pub records : List Row
+records = setUpRecord ∷ multicastRecord ∷ proposeRecord ∷ []
+
+-- how many bytes a record of a kind has; 0 where the kind is unknown
+unfoldable pub recordTotal : ℕ → ℕ
+recordTotal kind = cond (known records kind) (1 + sum (body records kind)) 0
+
+-- the byte after the kind: N, or the target ledger
+abbrev pub secondIn : List ℕ → ℕ
+secondIn bytes = getD bytes 1 0
+
+-- N is from 1 to 8
+abbrev pub lawfulGroup : ℕ → Bool
+lawfulGroup n = leb 1 n && leb n 8
+
+-- a target is from 1 to N; a group whose N is not from 1 to 8 has none: N is 0 before any set-up
+abbrev pub lawfulTarget : Group → ℕ → Bool
+lawfulTarget g target = lawfulGroup (g .count) && (leb 1 target && leb target (g .count))
+
+-- a record with an unknown kind, cut short, a step before any set-up, or with bad N or target (outside 1 to N) ends the run
+unfoldable pub stops : Group → List ℕ → Bool
+stops g bytes =
+    not (known records (kindIn bytes))
+    || (ltb (length bytes) (recordTotal (kindIn bytes))
+    || cond (eqb (kindIn bytes) (setUpRecord .kind)) (not (lawfulGroup (secondIn bytes))) (not (lawfulTarget g (secondIn bytes))))
+
+-- N ledgers afresh; a place beyond N, whose set-up is refused, is all zero
+unfoldable pub started : ℕ → Group
+started n = record { count = n; ledgers = listed 8 (λ i. setUp n (suc i) .state) }
+
+-- before any set-up
+abbrev pub noGroup : Group
+noGroup = record { count = 0; ledgers = replicate 8 (fresh 0 0) }
+
+-- the frame of a step record: the frame's own kind, and the body bytes after the target
+abbrev pub carried : Row → List ℕ → List ℕ
+carried row bytes = row .kind ∷ take (sum (row .body)) (drop 2 bytes)
+
+unfoldable pub frameIn : List ℕ → List ℕ
+frameIn bytes = cond (eqb (kindIn bytes) (multicastRecord .kind)) (carried multicast bytes) (carried propose bytes)
+
+-- ledger `target` of a group (no ledger stands beyond the places; no target goes there)
+abbrev pub ledgerOf : Group → ℕ → Ledger
+ledgerOf g target =
+    getD (g .ledgers) (target - 1)
+    (record { group = 0; own = record { 0 = 0 }; clock = record { 0 = 0 }; count = 0; payments = [] })
+
+-- what a record does: the group after it, what is printed of it, and the whole posting list
+pub record Outcome : Type 0 where
+  pub group : Group
+  pub did : Did
+  pub list : List ℕ
+
+-- what the code handed back, beside the posting list as it was left
+abbrev pub outcome : Turn → List ℕ → Outcome
+outcome r list = record { group = r .group; did = r .did; list = list }
+
+-- a step: the target ledger takes the frame; what it sends goes nowhere (the drill routes nothing itself)
+unfoldable pub stepped : Group → ℕ → List ℕ → List ℕ → Outcome
+stepped g target frame list =
+    let after = step (ledgerOf g target) frame (replicate 9 0) list in
+    record {
+      group = record { count = g .count; ledgers = set (g .ledgers) (target - 1) (after .state) };
+      did = Step target (after .answer) (after .postings);
+      list = after .list;
+    }
+
+-- a record that ends the run leaves the ledgers and the list as they were
+abbrev pub stopped : Group → List ℕ → Outcome
+stopped g list = record { group = g; did = Stop; list = list }
+
+-- what the record at the start of bytes does
+unfoldable pub turn : Group → List ℕ → List ℕ → Outcome
+turn g bytes list =
+    cond (stops g bytes)
+    (stopped g list)
+    (cond (eqb (kindIn bytes) (setUpRecord .kind))
+    (record { group = started (secondIn bytes); did = SetUp (secondIn bytes); list = list })
+    (stepped g (secondIn bytes) (frameIn bytes) list))
