@@ -1,0 +1,6 @@
+-- Laws of the drill's lines.
+-- Assumes nothing.
+pub mod DecimalLaws
+pub mod TextLaws
+pub mod LineLaws
+pub mod Settled

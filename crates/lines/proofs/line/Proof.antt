@@ -1,0 +1,44 @@
+use mathlib.Core.Path.{ap, sym, _∙_}
+use denote.Ref.{now}
+use Rattle.lines.specs.Lines.{printed, writing}
+use borrow.Author.Needs.{needs}
+use Rattle.lines.proofs.line.Statement.{statement}
+use Rattle.lines.proofs.line.Tie as tie
+
+returns : tie.Need-returns
+returns c =
+    let a = c .before .before .before .before .before .before .before .before .before .before .args in
+    c .before .before .named .ensures
+    ∙ sym (ap (λ d. writing (printed d (a .offset) (now (a .list))) (now (a .out))) (c .before .before .before .before .before .before .did .given .1))
+
+returns-2 : tie.Need-returns-2
+returns-2 c =
+    let a = c .before .before .before .before .before .before .before .before .before .args in
+    c .before .before .step .ensures
+    ∙ sym (ap (λ d. writing (printed d (a .offset) (now (a .list))) (now (a .out))) (c .before .before .before .before .before .did2 .given .1))
+
+returns-3 : tie.Need-returns-3
+returns-3 c =
+    let a = c .before .before .before .before .before .before .before .before .before .args in
+    c .before .before .named2 .ensures
+    ∙ sym (ap (λ d. writing (printed d (a .offset) (now (a .list))) (now (a .out))) (c .before .before .before .before .before .enum-told .given .1))
+
+pub line-spec : {M : Type 1} → statement M
+line-spec =
+    tie.close
+    (tie.spec
+    (λ c. search needs)
+    (λ c. search needs)
+    (λ c. search needs)
+    (λ c κs. search needs)
+    (λ c. search needs)
+    (λ c κs. search needs)
+    (λ c. search needs)
+    (λ c. search needs)
+    (λ c κs. search needs)
+    (λ c. search needs)
+    returns
+    (λ c. search needs)
+    returns-2
+    (λ c. search needs)
+    returns-3)
