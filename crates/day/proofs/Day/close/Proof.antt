@@ -1,0 +1,17 @@
+use mathlib.Core.Path.{sym, _∙_}
+use denote.Ref.{now}
+use Rattle.day.proofs.DayLaws.{close-end, close-over}
+use borrow.Author.Needs.{needs}
+use Rattle.day.proofs.Day.close.Statement.{statement}
+use Rattle.day.proofs.Day.close.Tie as tie
+
+returns : tie.Need-returns
+returns c = sym (close-over (c .before .before .args .self) (now (c .before .before .args .out)) (c .if1 .taken))
+
+returns-2 : tie.Need-returns-2
+returns-2 c =
+    let a = c .before .before .before .before .before .before .args in
+    c .before .before .end .ensures ∙ sym (close-end (a .self) (now (a .out)) (c .before .before .before .before .if1 .left))
+
+pub close-spec : {M : Type 1} → statement M
+close-spec = tie.close (tie.spec returns (λ c κs. search needs) (λ c. search needs) returns-2)

@@ -1,0 +1,4 @@
+-- Laws of a day of the drill.
+-- Assumes nothing.
+pub mod DayLaws
+pub mod Settled
