@@ -1,18 +1,22 @@
 -- Laws of a day, one for each way through the definitions.
 -- Assumes nothing.
-use Prim.Native.Nat.{ℕ, _+_}
-use mathlib.Core.Path.{_≡_, ap, _∙_}
+use Prim.Native.Nat.{ℕ, _+_, _≤_}
+use mathlib.Core.Path.{_≡_, ap, sym, _∙_, subst}
 use mathlib.Core.List.{List}
 use mathlib.Core.Bool.{Bool, true, false}
+use native.Mathlib.Omega.{arith}
 use lib.ListN.{replicate}
+use Rattle.common.proofs.TestLaws.{split}
 use Rattle.frame.specs.Frames.{kindIn}
 use Rattle.held.specs.Held.{limit}
 use Rattle.records.specs.Records.{recordTotal, turn}
 use Rattle.records.specs.Records.{Outcome as Turned}
 use Rattle.records.specs.declared.Group.{Group}
 use Rattle.lines.specs.Lines.{Wrote, ending, printed, writing, wrote}
-use Rattle.day.specs.Days.{Outcome, close, counted, done, ends, read, stepsIn}
+use Rattle.lines.proofs.LineLaws.{printed-short}
+use Rattle.day.specs.Days.{Outcome, close, counted, done, ends, outcome, read, stepsIn}
 use Rattle.day.specs.declared.Day.{Day}
+use Rattle.day.specs.declared.Done.{Done}
 
 -- what is left, from its parts
 abbrev left : Group → ℕ → ℕ → Bool → Wrote → Outcome
@@ -57,3 +61,14 @@ module _ (d : Day) (buffer : List ℕ) where
   pub close-end : d .over ≡ false → close d buffer ≡ writing (ending (d .steps)) buffer
   unfolding close
   close-end e = simp e
+
+-- no record prints more than 1,024 bytes
+read-short : (d : Day) (bytes buffer : List ℕ) → read d bytes buffer .written ≤ 1024
+unfolding read
+read-short d bytes buffer =
+    split (d .over)
+    (λ t. simp t (omega arith))
+    (λ t. let after = turn (d .group) bytes (replicate limit 0) in simp t (printed-short (after .did) (d .offset) (after .list)))
+
+pub done-short : (r : Done) (b : List ℕ) (d : Day) (bytes buffer : List ℕ) → outcome r b ≡ read d bytes buffer → r .written ≤ 1024
+done-short r b d bytes buffer e = subst (λ (o : Outcome). o .written ≤ 1024) (sym e) (read-short d bytes buffer)

@@ -1,0 +1,85 @@
+// The bytes of the input that are at hand.
+use libc::STDIN_FILENO;
+ghost use Prim.Native.Nat.{_≤_, _<_};
+ghost use lib.ListN.{length};
+
+// The part of the buffer that is still to be read, and whether no more input comes.
+pub struct Hand {
+    pub at: usize,
+    pub filled: usize,
+    pub last: bool,
+}
+
+// Before anything is read.
+pub fn none() -> Hand
+    ensures { λ r. ⌜ (r .at ≤ r .filled) × (r .filled ≤ 0) ⌝ }
+{
+    Hand {
+        at: 0,
+        filled: 0,
+        last: false,
+    }
+}
+
+// Whether the record at the start is not whole yet, and more input may come.
+pub fn waits(bytes: &[u8], last: bool) -> bool {
+    if last {
+        return false;
+    }
+    if bytes.len() == 0 {
+        return true;
+    }
+    bytes.len() < records::total(bytes[0])
+}
+
+// Whether no record can be read before more input comes.
+pub fn is_spent(bytes: &[u8], last: bool) -> bool {
+    if bytes.len() == 0 {
+        return true;
+    }
+    waits(bytes, last)
+}
+
+// How many bytes the record at the start takes: at least its kind, and at most all.
+pub fn taken(bytes: &[u8]) -> usize
+    requires { ⌜ 1 ≤ length (now bytes) ⌝ }
+    ensures { λ r. ⌜ (1 ≤ r) × (r ≤ length (now (bytes .entry))) ⌝ }
+{
+    let size = records::total(bytes[0]);
+    if size < 1 {
+        return 1;
+    }
+    if bytes.len() < size {
+        return bytes.len();
+    }
+    size
+}
+
+// Moves the bytes that are left to the front, and gives their number.
+fn keep(buffer: &mut [u8], at: usize, filled: usize) -> usize
+    requires { ⌜ (at ≤ filled) × (filled ≤ length (now buffer)) ⌝ }
+    ensures { λ r. ⌜ r ≤ length (now (buffer .entry)) ⌝ }
+{
+    let left = filled - at;
+    for i in 0..left {
+        buffer[i] = buffer[at + i];
+    }
+    left
+}
+
+// Reads once behind the bytes that are left. A read that fails counts as the end of the input.
+pub fn refill(buffer: &mut [u8], at: usize, filled: usize) -> Hand
+    requires { ⌜ (at ≤ filled) × (filled ≤ length (now buffer)) ⌝ }
+    ensures { λ r. ⌜ (r .at ≤ r .filled) × (r .filled ≤ length (now (buffer .entry))) ⌝ }
+{
+    let kept = keep(buffer, at, filled);
+    let n = io::count(
+        libc::read(STDIN_FILENO, &mut buffer[kept..]),
+        &buffer[kept..],
+    );
+    Hand {
+        at: 0,
+        filled: kept + n,
+        last: n == 0,
+    }
+}
