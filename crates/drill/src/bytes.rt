@@ -4,14 +4,14 @@ ghost use Prim.Native.Nat.{_≤_, _<_};
 ghost use lib.ListN.{length};
 
 // The part of the buffer that is still to be read, and whether no more input comes.
-pub struct Hand {
+pub(crate) struct Hand {
     pub at: usize,
     pub filled: usize,
     pub last: bool,
 }
 
 // Before anything is read.
-pub fn none() -> Hand
+pub(crate) fn none() -> Hand
     ensures { λ r. ⌜ (r .at ≤ r .filled) × (r .filled ≤ 0) ⌝ }
 {
     Hand {
@@ -22,7 +22,7 @@ pub fn none() -> Hand
 }
 
 // Whether the record at the start is not whole yet, and more input may come.
-pub fn waits(bytes: &[u8], last: bool) -> bool {
+pub(crate) fn waits(bytes: &[u8], last: bool) -> bool {
     if last {
         return false;
     }
@@ -33,7 +33,7 @@ pub fn waits(bytes: &[u8], last: bool) -> bool {
 }
 
 // Whether no record can be read before more input comes.
-pub fn is_spent(bytes: &[u8], last: bool) -> bool {
+pub(crate) fn is_spent(bytes: &[u8], last: bool) -> bool {
     if bytes.len() == 0 {
         return true;
     }
@@ -41,7 +41,7 @@ pub fn is_spent(bytes: &[u8], last: bool) -> bool {
 }
 
 // How many bytes the record at the start takes: at least its kind, and at most all.
-pub fn taken(bytes: &[u8]) -> usize
+pub(crate) fn taken(bytes: &[u8]) -> usize
     requires { ⌜ 1 ≤ length (now bytes) ⌝ }
     ensures { λ r. ⌜ (1 ≤ r) × (r ≤ length (now (bytes .entry))) ⌝ }
 {
@@ -68,7 +68,7 @@ fn keep(buffer: &mut [u8], at: usize, filled: usize) -> usize
 }
 
 // Reads once behind the bytes that are left. A read that fails counts as the end of the input.
-pub fn refill(buffer: &mut [u8], at: usize, filled: usize) -> Hand
+pub(crate) fn refill(buffer: &mut [u8], at: usize, filled: usize) -> Hand
     requires { ⌜ (at ≤ filled) × (filled ≤ length (now buffer)) ⌝ }
     ensures { λ r. ⌜ (r .at ≤ r .filled) × (r .filled ≤ length (now (buffer .entry))) ⌝ }
 {
