@@ -1,13 +1,15 @@
 -- Document 01, "The drill": where a run over the records stands, and what it prints next.
 -- Assumes nothing.
-use Prim.Native.Nat.{ℕ, _+_, _%_, _^_}
-use mathlib.Core.List.{List}
-use mathlib.Core.Bool.{Bool, true, false, cond}
-use lib.ListN.{length, replicate}
+use Prim.Native.Nat.{ℕ, zero, suc, _+_, _%_, _^_}
+use mathlib.Core.List.{List, [], _++_}
+use mathlib.Core.Bool.{Bool, true, false, cond, _||_}
+use lib.Dec.{eqb}
+use lib.ListN.{drop, length, replicate}
 use lib.Seq.{sets}
 use Rattle.frame.specs.Frames.{kindIn}
 use Rattle.held.specs.Held.{limit}
 use Rattle.records.specs.Records.{noGroup, recordTotal, turn}
+use Rattle.records.specs.Records.{Outcome as Turned}
 use Rattle.records.specs.declared.Did.{Did}
 use Rattle.records.specs.declared.Did.the-variants.{SetUp, Step, Stop}
 use Rattle.lines.specs.Lines.{Wrote, ending, printed, writing}
@@ -44,21 +46,28 @@ pub record Outcome : Type 0 where
 abbrev pub outcome : Done → List ℕ → Outcome
 outcome r buffer = record { day = r .day; written = r .written; buffer = buffer }
 
--- a record is done to the ledgers, and its line is printed; the next record begins after its bytes
+-- what the record at the start of bytes does to the ledgers
+abbrev pub turned : Day → List ℕ → Turned
+turned d bytes = turn (d .group) bytes (replicate limit 0)
+
+-- the line that is printed of it
+abbrev pub lineOf : Day → List ℕ → List ℕ
+lineOf d bytes = printed (turned d bytes .did) (d .offset) (turned d bytes .list)
+
+-- the day after it; the next record begins after its bytes
+abbrev pub next : Day → List ℕ → Day
+next d bytes =
+    record {
+      group = turned d bytes .group;
+      offset = counted (d .offset + recordTotal (kindIn bytes));
+      steps = counted (d .steps + stepsIn (turned d bytes .did));
+      over = ends (turned d bytes .did);
+    }
+
+-- the line is written to a buffer
 abbrev pub done : Day → List ℕ → List ℕ → Outcome
 done d bytes buffer =
-    let after = turn (d .group) bytes (replicate limit 0) in
-    let text = printed (after .did) (d .offset) (after .list) in
-    record {
-      day = record {
-        group = after .group;
-        offset = counted (d .offset + recordTotal (kindIn bytes));
-        steps = counted (d .steps + stepsIn (after .did));
-        over = ends (after .did);
-      };
-      written = length text;
-      buffer = sets buffer 0 text;
-    }
+    record { day = next d bytes; written = length (lineOf d bytes); buffer = sets buffer 0 (lineOf d bytes) }
 
 -- what the record at the start of bytes leaves; a run that has ended stays as it is and prints no more
 unfoldable pub read : Day → List ℕ → List ℕ → Outcome
@@ -66,5 +75,20 @@ read d bytes buffer = cond (d .over) (record { day = d; written = 0; buffer = bu
 
 -- at the end of input: nothing where a record ended the run; otherwise the last line is `END` and the number of step records
 -- since the start of input
+abbrev pub lastLine : Day → List ℕ
+lastLine d = cond (d .over) [] (ending (d .steps))
+
 unfoldable pub close : Day → List ℕ → Wrote
-close d buffer = cond (d .over) (record { length = 0; buffer = buffer }) (writing (ending (d .steps)) buffer)
+close d buffer = writing (lastLine d) buffer
+
+-- all that is printed from a day on: the line of each of at most k records, one behind the other, and the last line
+unfoldable pub outputs : ℕ → Day → List ℕ → List ℕ
+outputs zero d bytes = lastLine d
+outputs (suc k) d bytes =
+    cond (d .over || eqb (length bytes) 0)
+    (lastLine d)
+    (lineOf d bytes ++ outputs k (next d bytes) (drop (recordTotal (kindIn bytes)) bytes))
+
+-- there are not more records than bytes
+abbrev pub output : Day → List ℕ → List ℕ
+output d bytes = outputs (length bytes) d bytes
