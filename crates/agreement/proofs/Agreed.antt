@@ -8,7 +8,7 @@ use mathlib.Core.Logic.{_⊎_, inl, inr, ⊎-elim}
 use native.Mathlib.Omega.{arith}
 use borrow.Author.Tests.{le-leb}
 use Rattle.common.proofs.TestLaws.{and-both}
-use Rattle.payment.specs.Ledgers.{without}
+use Rattle.payment.specs.Ledgers.{mostLedgers, without}
 use Rattle.payment.specs.Payments.{lastTime}
 use Rattle.payment.specs.declared.Payment.{Payment}
 use Rattle.ledger.specs.State.{fresh, lawfulSetUp, setUp}
@@ -24,7 +24,8 @@ use Rattle.agreement.specs.Claims.{Holds}
 use Rattle.agreement.proofs.Hearing.{Heard, HeardTime, has-from, heard-from, heard-goes, heard-now}
 use Rattle.agreement.proofs.Calls.{Well, answer, by-call, frameOf, heard-stays, view, well-stays}
 use Rattle.agreement.proofs.Written.{copies-from, copies-kept, copies-new, copy-is, newCopy, taken-call}
-use Rattle.agreement.proofs.Copies.{FromDesk, FromLedger, Sent, copyOf, from-desk, from-ledger, in-byte, other-destination}
+use Rattle.agreement.proofs.Copies.{FromDesk, FromLedger, Sent, copyOf, from-desk, from-ledger, in-byte}
+use Rattle.payment.proofs.OtherLaws.{other-destination}
 
 -- its destinations are d
 abbrev pub Goes : ℕ → Payment → Type 0
@@ -51,7 +52,7 @@ module _ (n : ℕ) (table : List Entry) (law : Lawful n table) (w : World) (c : 
   abbrev next : ℕ → Ledger
   next = called w c .ledgers
 
-  few : {q : ℕ} → q ≤ n → q ≤ 8
+  few : {q : ℕ} → q ≤ n → q ≤ mostLedgers
   few h = let most = law .ledgers .1 in omega arith
 
   stays : (j m d q t : ℕ) → 1 ≤ q → q ≤ n → Heard (w .ledgers j) m d q t → Heard (next j) m d q t

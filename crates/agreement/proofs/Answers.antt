@@ -11,7 +11,7 @@ use lib.ListN.{drop}
 use borrow.Author.Tests.{eq-eqb, eqb-true, le-leb, le-ltb, lt-leb, ne-eqb}
 use Rattle.common.proofs.PlaceLaws.{any-not}
 use Rattle.common.proofs.TestLaws.{and-both, and-false, and-go, and-left, and-right, and-stop, both, or-go, split}
-use Rattle.payment.specs.Ledgers.{has}
+use Rattle.payment.specs.Ledgers.{has, mostLedgers}
 use Rattle.payment.specs.Payments.{heardFrom, keeps, lastTime, timeFrom, unlawful}
 use Rattle.payment.proofs.KeptLaws.{keeps-proposes}
 use Rattle.held.specs.Held.{at, heldForAnother, isNumber, limit}
@@ -25,12 +25,13 @@ use Rattle.agreement.specs.Claims.{Holds}
 use Rattle.agreement.proofs.Agreed.{Agrees, Goes, came, of-table}
 use Rattle.agreement.proofs.Calls.{Well, answer, frameOf}
 use Rattle.agreement.proofs.Clocks.{given, given-few}
-use Rattle.agreement.proofs.Copies.{FromLedger, in-byte, ledgerFrame, other-destination, to-destination}
+use Rattle.agreement.proofs.Copies.{FromLedger, in-byte, ledgerFrame, to-destination}
 use Rattle.agreement.proofs.Entries.{one-entry}
 use Rattle.agreement.proofs.Found.{heard-used, holds-at}
 use Rattle.agreement.proofs.Hearing.{Heard}
 use Rattle.agreement.proofs.Room.{Room, room-here}
 use Rattle.agreement.proofs.Stamps.{one-time, own-times-differ}
+use Rattle.payment.proofs.OtherLaws.{other-destination}
 
 -- a row that does not apply is passed over
 skip : (k : ℕ) (rs : List Row) {b : Bool} → b ≡ false → firstGiven (row k b ∷ rs) ≡ firstGiven rs
@@ -105,7 +106,7 @@ module _ (n : ℕ) (table : List Entry) (law : Lawful n table) (w : World) (c : 
     abbrev t : ℕ
     t = o .sent .time
 
-    few : {k : ℕ} → k ≤ n → k ≤ 8
+    few : {k : ℕ} → k ≤ n → k ≤ mostLedgers
     few h = le-trans h (law .ledgers .1)
 
     another : c .to ≡ o .sent .writer → ⊥

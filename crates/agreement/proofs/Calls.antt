@@ -5,6 +5,7 @@ use mathlib.Core.Path.{_≡_, refl, ap, sym, _∙_, subst}
 use mathlib.Core.Bool.{true, cond}
 use lib.Dec.{eqb}
 use borrow.Author.Tests.{eq-eqb, eqb-false, eqb-true, ne-eqb}
+use Rattle.payment.specs.Ledgers.{mostLedgers}
 use Rattle.common.proofs.TestLaws.{split}
 use Rattle.frame.specs.Frames.{frameValues}
 use Rattle.ledger.specs.Sound.{sound}
@@ -72,7 +73,7 @@ module _ (w : World) (c : Call) where
       (λ n. subst A (sym (at-other j n)) old)
 
   -- what a ledger has heard stays
-  pub heard-stays : Shaped before → (j m d q t : ℕ) → 1 ≤ q → q ≤ 8 → Heard (w .ledgers j) m d q t → Heard (called w c .ledgers j) m d q t
+  pub heard-stays : Shaped before → (j m d q t : ℕ) → 1 ≤ q → q ≤ mostLedgers → Heard (w .ledgers j) m d q t → Heard (called w c .ledgers j) m d q t
   heard-stays shape j m d q t h₁ h₈ h =
       by-call (λ l. Heard l m d q t) shape j h
       (λ e k v. heard-kept before (frameOf c) (k .is-sound) shape (k .unrefused) (called w c .ledgers (c .to)) v m d q t h₁ h₈ (subst (λ i. Heard (w .ledgers i) m d q t) e h))

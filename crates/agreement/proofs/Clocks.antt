@@ -10,7 +10,7 @@ use native.Mathlib.Omega.{arith}
 use borrow.Author.Tests.{eqb-true}
 use Rattle.common.specs.Places.{count}
 use Rattle.common.proofs.TestLaws.{split}
-use Rattle.payment.specs.Ledgers.{has}
+use Rattle.payment.specs.Ledgers.{has, mostLedgers}
 use Rattle.payment.specs.Payments.{allHeard, heardFrom, stampOf, timeFrom}
 use Rattle.payment.specs.Right.{notAboveClock}
 use Rattle.payment.proofs.GreatestLaws.{greatest-time}
@@ -31,7 +31,7 @@ use Rattle.agreement.specs.Run.{Call, Entry, Lawful, May, World, called}
 use Rattle.agreement.specs.Claims.{OfGroup}
 use Rattle.agreement.proofs.Agreed.{Agrees, agrees-next, of-table}
 use Rattle.agreement.proofs.Calls.{Well, at-other, by-call, frameOf, view}
-use Rattle.agreement.proofs.Counts.{count-le, count-lt, count-most, sum-le, sum-lt, sum-most, sumOf}
+use Rattle.common.proofs.CountLaws.{count-le, count-lt, count-most, sum-le, sum-lt, sum-most, sumOf}
 use Rattle.agreement.proofs.Entries.{in-group}
 use Rattle.agreement.proofs.Found.{place-heard}
 use Rattle.agreement.proofs.Hearing.{Heard, HeardTime, has-now, heard-goes, heard-lasts, own-unheard, still-heard}
@@ -55,7 +55,7 @@ own-time-below n q l well m d t x =
     (each-at (l .payments) (l .count) (notAboveClock (l .own .0) (l .clock .0)) (clauses l (well .is-sound) .kept .clock) (x .at-place) (x .within) (x .used)))
 
 module _ (l : Ledger) (f : Incoming) (is-sound : sound l ≡ true) (shape : Shaped l) (e : firstGiven (judged l f) ≡ 0) (after : Ledger) (v : View l f after)
-    (own : (1 ≤ l .own .0) × (l .own .0 ≤ 8)) where
+    (own : (1 ≤ l .own .0) × (l .own .0 ≤ mostLedgers)) where
   -- an own time that is given stays
   given-stays : (i : ℕ) → i < limit → heardFrom (at (l .payments) i) (l .own .0) ≡ true → heardFrom (at (after .payments) i) (after .own .0) ≡ true
   given-stays i h t =
@@ -86,11 +86,11 @@ module _ (n : ℕ) (table : List Entry) (law : Lawful n table) (w : World) (c : 
   abbrev before : Ledger
   before = w .ledgers (c .to)
 
-  own-in : (1 ≤ w .ledgers (c .to) .own .0) × (w .ledgers (c .to) .own .0 ≤ 8)
+  own-in : (1 ≤ w .ledgers (c .to) .own .0) × (w .ledgers (c .to) .own .0 ≤ mostLedgers)
   own-in =
       let most = law .ledgers .1 in
       let h = may .ledger in
-      subst (λ k. (1 ≤ k) × (k ≤ 8)) (sym (called-well .own)) (h .0, le-trans (h .1) most)
+      subst (λ k. (1 ≤ k) × (k ≤ mostLedgers)) (sym (called-well .own)) (h .0, le-trans (h .1) most)
 
   each-up : (k : ℕ) → ownTimes (w .ledgers k) ≤ ownTimes (called w c .ledgers k)
   each-up k =
@@ -138,7 +138,7 @@ module _ (n : ℕ) (table : List Entry) (law : Lawful n table) (w : World) (c : 
       let p = heardPayment before (frameOf c) in
       let goes = heard-goes before (frameOf c) (t .is-sound) (called-well .shape) (t .unrefused) in
       let lawful = law .destinations _ (of-table n table law w c may a) .1 in
-      greatest-time (p .times) (p .heard) (λ z. z ≤ given n (called w c)) (omega arith) 8
+      greatest-time (p .times) (p .heard) (λ z. z ≤ given n (called w c)) (omega arith) mostLedgers
       (λ k h e. time-bound t (suc k) (in-group n _ (suc k) lawful (ap (λ b. has b (suc k)) (sym (eqb-true _ _ all ∙ goes)) ∙ e)) e)
 
   pub bound-next : (k : ℕ) → OfGroup n k → called w c .ledgers k .clock .0 ≤ given n (called w c)

@@ -1,7 +1,7 @@
 -- Every run can be gone on with until every copy is handed in: first each MULTICAST copy, which makes every ledger write what it
 -- ever will; then each copy of what is written.
 -- Assumes nothing.
-use Prim.Native.Nat.{ℕ, zero, suc, _-_, _^_, _<_, _≤_}
+use Prim.Native.Nat.{ℕ, zero, suc, _-_, _≤_}
 use mathlib.Core.Path.{_≡_, refl, ap, sym, _∙_, subst}
 use mathlib.Core.List.{List, [], _∷_, _++_, append-assoc, map}
 use mathlib.Core.Bool.{true, cond}
@@ -11,22 +11,22 @@ use native.Mathlib.Omega.{arith}
 use lib.ListN.{length, length-replicate, replicate}
 use lib.Dec.{ltb}
 use borrow.Author.Tests.{ltb-false, ltb-true}
-use Rattle.common.specs.Bits.{bit}
 use Rattle.common.specs.Places.{In}
 use Rattle.payment.proofs.LedgerLaws.{has-beyond}
 use Rattle.common.proofs.TestLaws.{both, split}
 use Rattle.frame.specs.Frames.{propose, total}
-use Rattle.payment.specs.Ledgers.{has, without}
+use Rattle.payment.specs.Ledgers.{has, mostLedgers, without}
 use Rattle.held.specs.Held.{limit}
 use Rattle.soundness.proofs.Replacing.{by-place}
 use Rattle.agreement.specs.Run.{Call, Calls, Entry, Lawful, May, OfDesk, OfLedger, World, Written, after, multicastCopy}
 use Rattle.agreement.specs.Claims.{AllHandedIn, Completion, HandedIn, OfGroup}
 use Rattle.agreement.proofs.Agreed.{no-copy}
-use Rattle.agreement.proofs.Copies.{from-ledger, in-byte, other-destination}
+use Rattle.agreement.proofs.Copies.{from-ledger, in-byte}
 use Rattle.agreement.proofs.Entries.{in-group}
 use Rattle.agreement.proofs.Invariant.{kept}
 use Rattle.agreement.proofs.Lists.{in-append, in-left, in-right}
 use Rattle.agreement.proofs.Written.{copies-from, copies-kept}
+use Rattle.payment.proofs.OtherLaws.{other-destination, without-byte}
 
 -- a call with buffers just long enough
 abbrev callOf : ℕ → List ℕ → Call
@@ -99,11 +99,6 @@ of-desks : (table : List Entry) (x : Written) → In x (map ofDesk table) → (e
 of-desks [] x i = absurd i
 of-desks (e ∷ es) x i = ⊎-elim (λ q. (e, inl refl, q)) (λ t. let r = of-desks es x t in (r .0, inr (r .1), r .2)) i
 
-without-byte : (d q : ℕ) → d < 256 → without d q < 256
-unfolding without
-without-byte d zero h = h
-without-byte d (suc l) h = split (bit d l) (λ t. subst (λ b. cond b (d - 2 ^ l) d < 256) (sym t) (omega arith)) (λ t. subst (λ b. cond b (d - 2 ^ l) d < 256) (sym t) h)
-
 module _ (n : ℕ) (table : List Entry) where
   -- calls that may be made whatever went before
   go-on : (ds cs : List Call) → ((c : Call) → In c ds → (es : List Call) → May n table (after n (es ++ cs)) c) → Calls n table cs → Calls n table (ds ++ cs)
@@ -172,7 +167,7 @@ module _ (n : ℕ) (table : List Entry) where
         let d = s .entry .destinations in
         let among : has (without d (s .writer)) k ≡ true = ap (λ z. has (z .recipients) k) (sym (s .is)) ∙ e in
         let byte = in-byte n table law (s .entry) (s .in-table) in
-        let few : k ≤ 8 = split (ltb 8 k) (λ t. both among (has-beyond (without d (s .writer)) k (without-byte d (s .writer) byte) (ltb-true _ _ t))) (λ t. ltb-false _ _ t) in
+        let few : k ≤ mostLedgers = split (ltb mostLedgers k) (λ t. both among (has-beyond (without d (s .writer)) k (without-byte d (s .writer) byte) (ltb-true _ _ t))) (λ t. ltb-false _ _ t) in
         in-group n d k (law .destinations (s .entry) (s .in-table) .1)
         (other-destination d (s .writer) k byte (s .from .0) (le-trans (s .from .1) (law .ledgers .1)) few among .1)
 

@@ -1,23 +1,19 @@
 -- What may be handed in: each such frame is read as a MULTICAST of the table, or as a PROPOSE with its writer's own time.
 -- Assumes nothing.
-use Prim.Native.Nat.{ℕ, zero, suc, _<_, _≤_, _^_}
+use Prim.Native.Nat.{ℕ, _<_, _≤_, _^_}
 use mathlib.Core.Path.{_≡_, refl, ap, sym, _∙_}
 use mathlib.Core.List.{List, [], _∷_}
-use mathlib.Core.Bool.{true, false, not}
+use mathlib.Core.Bool.{true, false}
 use mathlib.Core.Logic.{⊎-elim}
 use native.Mathlib.Nat.{le-trans}
-use lib.Dec.{eqb}
-use Rattle.common.proofs.TestLaws.{and-both, and-left, and-right, both}
-use Rattle.payment.proofs.HearLaws.{without-has}
-use Rattle.payment.proofs.LedgerLaws.{has-none}
 use native.Mathlib.Omega.{arith}
 use lib.Pow.{pow-mono}
-use borrow.Author.Tests.{eq-eqb, lt-ltb, ne-eqb}
+use borrow.Author.Tests.{lt-ltb}
 use Rattle.frame.specs.Digits.{fitting}
 use Rattle.frame.specs.Frames.{body, frameBytes, frameValues, known, notAFrame, table, valuesOf}
 use Rattle.frame.specs.declared.Frame.the-variants.{Multicast, Propose}
 use Rattle.frame.proofs.RoundTrip.{bytes-read}
-use Rattle.payment.specs.Ledgers.{has, without}
+use Rattle.payment.specs.Ledgers.{has, mostLedgers, without}
 use Rattle.payment.specs.Payments.{lastTime}
 use Rattle.ledger.specs.Refusals.{incoming}
 use Rattle.ledger.specs.declared.Incoming.{Incoming}
@@ -25,6 +21,7 @@ use Rattle.common.specs.Places.{In}
 use Rattle.agreement.specs.Run.{Call, Written, Entry, Lawful, May, OfDesk, OfLedger, World, multicastCopy}
 use Rattle.agreement.proofs.Hearing.{Heard}
 use Rattle.agreement.proofs.Calls.{frameOf}
+use Rattle.payment.proofs.OtherLaws.{other-destination}
 
 -- a MULTICAST of a payment, and ledger q's PROPOSE of time t for it, as they are read
 abbrev pub deskFrame : Entry → Incoming
@@ -41,11 +38,11 @@ copyOf e q t =
       recipients = without (e .destinations) q;
     }
 
-fits-desk : (m d : ℕ) → m < 2 ^ 32 → d < 2 ^ 8 → fitting (body table 1) (m ∷ d ∷ []) ≡ true
+fits-desk : (m d : ℕ) → m < 2 ^ 32 → d < 2 ^ mostLedgers → fitting (body table 1) (m ∷ d ∷ []) ≡ true
 unfolding body fitting
 fits-desk m d h₁ h₂ = simp (lt-ltb _ _ h₁, lt-ltb _ _ h₂)
 
-fits-ledger : (m d q t : ℕ) → m < 2 ^ 32 → d < 2 ^ 8 → q < 2 ^ 8 → t < 2 ^ 16 → fitting (body table 2) (m ∷ d ∷ q ∷ t ∷ []) ≡ true
+fits-ledger : (m d q t : ℕ) → m < 2 ^ 32 → d < 2 ^ mostLedgers → q < 2 ^ mostLedgers → t < 2 ^ 16 → fitting (body table 2) (m ∷ d ∷ q ∷ t ∷ []) ≡ true
 unfolding body fitting
 fits-ledger m d q t h₁ h₂ h₃ h₄ = simp (lt-ltb _ _ h₁, lt-ltb _ _ h₂, lt-ltb _ _ h₃, lt-ltb _ _ h₄)
 
@@ -80,27 +77,12 @@ pub record FromLedger (n : ℕ) (table : List Entry) (w : World) (c : Call) : Ty
   pub frame : frameOf c ≡ ledgerFrame (sent .entry) (sent .writer) (sent .time)
   pub recipient : has (without (sent .entry .destinations) (sent .writer)) (c .to) ≡ true
 
--- one of the others is a destination, and another one
-pub other-destination : (d q k : ℕ) → d < 2 ^ 8 → 1 ≤ q → q ≤ 8 → k ≤ 8 → has (without d q) k ≡ true → (k ≡ q → ⊥) × (has d k ≡ true)
-other-destination d zero k hd h₁ h₈ hk e = absurd (omega arith)
-other-destination d (suc q) zero hd h₁ h₈ hk e = both e (has-none (without d (suc q)) zero refl)
-other-destination d (suc q) (suc k) hd h₁ h₈ hk e =
-    let t = sym (without-has d q k hd (omega arith) (omega arith)) ∙ e in
-    (λ z. both (and-left (not (eqb k q)) _ t) (ap not (eq-eqb k q (omega (arith, z)))), and-right (not (eqb k q)) _ t)
-
--- and any other destination is one of the others
-pub among-others : (d q k : ℕ) → d < 2 ^ 8 → 1 ≤ q → q ≤ 8 → k ≤ 8 → (k ≡ q → ⊥) → has d k ≡ true → has (without d q) k ≡ true
-among-others d zero k hd h₁ h₈ hk n e = absurd (omega arith)
-among-others d (suc q) zero hd h₁ h₈ hk n e = both e (has-none d zero refl)
-among-others d (suc q) (suc k) hd h₁ h₈ hk n e =
-    without-has d q k hd (omega arith) (omega arith) ∙ and-both (ap not (ne-eqb k q (λ z. n (ap suc z)))) e
-
 module _ (n : ℕ) (table : List Entry) (law : Lawful n table) where
   -- destinations are within a byte
-  pub in-byte : (e : Entry) → In e table → e .destinations < 2 ^ 8
+  pub in-byte : (e : Entry) → In e table → e .destinations < 2 ^ mostLedgers
   in-byte e i =
       let below = law .destinations e i .1 in
-      let most : 2 ^ n ≤ 2 ^ 8 = pow-mono {i = n} {j = 8} (law .ledgers .1) in
+      let most : 2 ^ n ≤ 2 ^ mostLedgers = pow-mono {i = n} {j = mostLedgers} (law .ledgers .1) in
       omega arith
 
   -- a desk's MULTICAST as it is read

@@ -2,15 +2,15 @@
 -- Assumes nothing.
 use Prim.Native.Nat.{ℕ, _<_}
 use mathlib.Core.Path.{_≡_, refl, ap, sym, _∙_, subst}
-use mathlib.Core.Bool.{true, false, cond}
+use mathlib.Core.Bool.{true, cond}
 use native.Mathlib.Nat.{lt-irrefl}
-use lib.Dec.{eqb, ltb}
-use borrow.Author.Tests.{eqb-true, ltb-false, ltb-true}
-use Rattle.common.proofs.TestLaws.{and-left, and-right, both, split}
+use lib.Dec.{ltb}
+use borrow.Author.Tests.{ltb-false, ltb-true}
+use Rattle.common.proofs.TestLaws.{both, split}
 use Rattle.payment.specs.Payments.{heardFrom}
 use Rattle.payment.specs.Right.{unused}
 use Rattle.payment.specs.declared.Payment.{Payment}
-use Rattle.payment.proofs.RightLaws.{has-empty}
+use Rattle.payment.proofs.RightLaws.{has-empty, unused-heard}
 use Rattle.held.specs.Held.{at, holds, limit, placeOf}
 use Rattle.held.proofs.ReflectLaws.{unused-at}
 use Rattle.ledger.specs.Refusals.{firstGiven, heldOne, isHeld, judged}
@@ -23,13 +23,6 @@ use Rattle.ledger.proofs.JudgeLaws.{place-range}
 use Rattle.ledger.proofs.SoundLaws.{clauses}
 use Rattle.soundness.proofs.Accepted.{found, missing, unused-number}
 use Rattle.agreement.specs.Claims.{Holds}
-
-unused-heard : (p : Payment) → unused p ≡ true → (q : ℕ) → heardFrom p q ≡ false
-unfolding unused
-unused-heard p e q =
-    ap (λ b. heardFrom (record { number = p .number; destinations = p .destinations; heard = b; times = p .times; phase = p .phase }) q)
-    (eqb-true _ _ (and-left (eqb (p .heard) 0) _ (and-right (eqb (p .destinations) 0) _ (and-right (eqb (p .number .0) 0) _ e))))
-    ∙ has-empty q
 
 module _ (l : Ledger) (is-sound : sound l ≡ true) where
   -- what is not unused is used

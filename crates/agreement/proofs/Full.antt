@@ -3,21 +3,21 @@
 use Prim.Native.Nat.{ℕ, suc, _<_, _≤_}
 use mathlib.Core.Path.{_≡_, refl, ap, sym, _∙_, subst}
 use mathlib.Core.List.{List}
-use mathlib.Core.Bool.{true, not}
+use mathlib.Core.Bool.{true}
 use mathlib.Core.Logic.{⊎-elim}
 use native.Mathlib.Nat.{le-trans}
 use native.Mathlib.Omega.{arith}
 use lib.Dec.{ltb}
-use borrow.Author.Tests.{eq-eqb, eqb-false, eqb-true, ltb-false, ltb-true}
+use borrow.Author.Tests.{eqb-true, ltb-false, ltb-true}
 use Rattle.common.specs.Bits.{bit}
 use Rattle.common.specs.Places.{In}
-use Rattle.common.proofs.PlaceLaws.{any-not, every-at}
+use Rattle.common.proofs.PlaceLaws.{any-not}
 use Rattle.common.proofs.TestLaws.{both, or-cases, same, split}
-use Rattle.payment.specs.Ledgers.{has}
-use Rattle.payment.specs.Payments.{hasStamp, heardFrom, isPosted, isProposed, isStamped, isWaiting, lastTime, stampOf}
-use Rattle.payment.specs.Right.{heardRight, phaseRight, timeRight}
+use Rattle.payment.specs.Ledgers.{has, mostLedgers}
+use Rattle.payment.specs.Payments.{hasStamp, heardFrom, isPosted, isStamped, lastTime, stampOf}
+use Rattle.payment.specs.Right.{heardRight, phaseRight}
 use Rattle.payment.specs.declared.Payment.{Payment}
-use Rattle.payment.proofs.RightLaws.{has-empty, later-none, proposed-own, right-elsewhere, waiting-own}
+use Rattle.payment.proofs.RightLaws.{all-stamped, has-empty, heard-destination}
 use Rattle.held.specs.Held.{at, limit}
 use Rattle.held.proofs.FreeLaws.{back-other, free-so}
 use Rattle.held.proofs.ReflectLaws.{each-at, free-none, unused-at}
@@ -30,29 +30,14 @@ use Rattle.agreement.specs.Claims.{AllHandedIn, HandedIn, Holds, OfGroup
 use Rattle.agreement.proofs.Agreed.{Agrees, Goes, entryOf}
 use Rattle.agreement.proofs.Calls.{Well, frameOf}
 use Rattle.agreement.proofs.Clocks.{own-time-below}
-use Rattle.agreement.proofs.Copies.{among-others, copyOf, deskFrame, in-byte, ledgerFrame, read-multicast, read-propose}
-use Rattle.agreement.proofs.Counts.{same-byte}
+use Rattle.agreement.proofs.Copies.{copyOf, deskFrame, in-byte, ledgerFrame, read-multicast, read-propose}
+use Rattle.common.proofs.CountLaws.{same-byte}
 use Rattle.agreement.proofs.Entries.{in-group}
 use Rattle.agreement.proofs.Handed.{Got}
 use Rattle.agreement.proofs.Hearing.{Heard, HeardTime, at-one-place}
 use Rattle.agreement.proofs.Stamps.{goes-there}
 use Rattle.agreement.proofs.Invariant.{clock-bound, got, kept}
-
--- heard ones are destinations
-heard-goes : (p : Payment) → heardRight p ≡ true → (k : ℕ) → k < 8 → heardFrom p (suc k) ≡ true → has (p .destinations) (suc k) ≡ true
-unfolding heardRight
-heard-goes p r k h e =
-    split (has (p .destinations) (suc k)) (λ t. t)
-    (λ t. both (every-at 8 (λ k. timeRight p (suc k)) r k h) (right-elsewhere p (suc k) e t))
-
--- a payment whose destinations are all heard has a stamp
-pub all-stamped : (own : ℕ) (p : Payment) → phaseRight own p ≡ true → heardFrom p own ≡ true → p .heard ≡ p .destinations → hasStamp p ≡ true
-all-stamped own p r h e =
-    split (isWaiting p)
-    (λ t. both r (waiting-own own p (eqb-true _ _ t) h))
-    (λ t. split (isProposed p)
-    (λ u. both r (proposed-own own p (eqb-true _ _ u) h ∙ ap not (eq-eqb _ _ e)))
-    (λ u. split (hasStamp p) (λ s. s) (λ s. both r (later-none own p (eqb-false _ _ t) (eqb-false _ _ u) s))))
+use Rattle.payment.proofs.OtherLaws.{among-others}
 
 module _ (n : ℕ) (table : List Entry) (law : Lawful n table) (cs : List Call) (calls : Calls n table cs) (handed : AllHandedIn n table cs) where
   abbrev w : World
@@ -61,7 +46,7 @@ module _ (n : ℕ) (table : List Entry) (law : Lawful n table) (cs : List Call) 
   a : Agrees n table (after n cs)
   a = kept n table law cs calls .agrees
 
-  few : {k : ℕ} → k ≤ n → k ≤ 8
+  few : {k : ℕ} → k ≤ n → k ≤ mostLedgers
   few h = le-trans h (law .ledgers .1)
 
   of-group : (e : Entry) → In e table → (q : ℕ) → has (e .destinations) q ≡ true → OfGroup n q
@@ -130,7 +115,7 @@ module _ (n : ℕ) (table : List Entry) (law : Lawful n table) (cs : List Call) 
       every-one =
           same-byte (p .heard) (p .destinations) (well .shape .heard i h) (in-byte n table law entry listed)
           (λ j hj. same (bit (p .heard) j) (bit (p .destinations) j)
-          (heard-goes p (each-at (l .payments) (l .count) heardRight (clauses l (well .is-sound) .kept .heard) i h u) j hj)
+          (heard-destination p (each-at (l .payments) (l .count) heardRight (clauses l (well .is-sound) .kept .heard) i h u) j hj)
           (is-heard (suc j)))
 
       stamped : hasStamp (at (after n cs .ledgers k .payments) i) ≡ true

@@ -3,14 +3,12 @@
 use Prim.Native.Nat.{ℕ, _+_, _<_}
 use mathlib.Core.Path.{_≡_, refl, ap, sym, _∙_, subst}
 use mathlib.Core.List.{List}
-use mathlib.Core.Bool.{Bool, true, false, cond, not, _&&_}
+use mathlib.Core.Bool.{Bool, true, false, cond, not}
 use mathlib.Core.Logic.{_⊎_, ⊎-elim}
 use native.Mathlib.Omega.{arith}
-use lib.Dec.{eqb}
 use borrow.Author.Tests.{eqb-true, not-false, not-true}
 use Rattle.common.proofs.TestLaws.{and-go, and-left, and-right, both, split}
-use Rattle.payment.specs.Ledgers.{has}
-use Rattle.payment.specs.Payments.{allHeard, hasProposal, hasStamp, heardFrom, isProposed, isWaiting, timeFrom}
+use Rattle.payment.specs.Payments.{hasProposal, heardFrom, isWaiting, timeFrom}
 use Rattle.payment.specs.Right.{lawful, phaseRight}
 use Rattle.payment.specs.declared.Payment.{Payment}
 use Rattle.held.specs.Held.{at, limit}
@@ -30,6 +28,7 @@ use Rattle.agreement.proofs.Answers.{number-right, one-way}
 use Rattle.agreement.proofs.Calls.{Well, answer, at-self, frameOf, view}
 use Rattle.agreement.proofs.Found.{holds-at}
 use Rattle.agreement.proofs.Hearing.{Heard, heard-now}
+use Rattle.payment.proofs.RightLaws.{past-waiting}
 
 -- whose time a frame brings to ledger k: its own for a MULTICAST, the source's for a PROPOSE
 abbrev pub spokenBy : ℕ → Incoming → ℕ
@@ -41,15 +40,6 @@ pub record Got (n k : ℕ) (l : Ledger) (f : Incoming) : Type 0 where
   pub time : ℕ
   pub heard : Heard l (f .payment .0) (f .destinations) (spokenBy k f) time
   pub told : isPropose f ≡ true → time ≡ f .time .0
-
--- a payment past waiting has its own time
-past-waiting : (own : ℕ) (p : Payment) → phaseRight own p ≡ true → isWaiting p ≡ false → has (p .destinations) own ≡ true → heardFrom p own ≡ true
-unfolding phaseRight
-past-waiting own p r w d =
-    let later = subst (λ b. cond b (not (heardFrom p own) && not (eqb (p .heard) 0)) (cond (isProposed p) (heardFrom p own && not (allHeard p)) (hasStamp p && allHeard p)) ≡ true) w r in
-    split (isProposed p)
-    (λ t. and-left (heardFrom p own) _ (subst (λ b. cond b (heardFrom p own && not (allHeard p)) (hasStamp p && allHeard p) ≡ true) t later))
-    (λ t. ap (λ b. has b own) (eqb-true _ _ (and-right (hasStamp p) _ (subst (λ b. cond b (heardFrom p own && not (allHeard p)) (hasStamp p && allHeard p) ≡ true) t later))) ∙ d)
 
 module _ (n : ℕ) (table : List Entry) (law : Lawful n table) (w : World) (c : Call) (may : May n table w c) (a : Agrees n table w) where
   well : Well n (c .to) (w .ledgers (c .to))

@@ -7,7 +7,7 @@ use mathlib.Core.Logic.{⊎-elim}
 use native.Mathlib.Omega.{arith}
 use borrow.Author.Tests.{eqb-true, not-false}
 use Rattle.common.proofs.TestLaws.{and-both, and-go, both, not-true, or-left, or-right, split}
-use Rattle.payment.specs.Ledgers.{has}
+use Rattle.payment.specs.Ledgers.{has, mostLedgers}
 use Rattle.payment.specs.Payments.{heardFrom, isWaiting, hasProposal, timeFrom, timeIn}
 use Rattle.payment.specs.declared.Payment.{Payment}
 use Rattle.payment.proofs.HearLaws.{Hears}
@@ -107,7 +107,7 @@ module _ (l : Ledger) (f : Incoming) (is-sound : sound l ≡ true) (shape : Shap
       (λ h. let same : j ≡ l .count = q ∙ ap (λ c. cond c (placeOf (l .payments) (f .payment .0)) (l .count)) h in absurd (omega arith))
 
   -- a ledger from 1 to 8 that was heard is not the one that is heard now
-  pub still-heard : (d q t : ℕ) → 1 ≤ q → q ≤ 8 → HeardTime d q t (paymentFor l f) → HeardTime d q t (heardPayment l f)
+  pub still-heard : (d q t : ℕ) → 1 ≤ q → q ≤ mostLedgers → HeardTime d q t (paymentFor l f) → HeardTime d q t (heardPayment l f)
   still-heard d zero t h₁ h₈ h = absurd (omega arith)
   still-heard d (suc k) t h₁ h₈ h =
       let v = brings l f is-sound shape e .heard in
@@ -183,11 +183,11 @@ module _ (l : Ledger) (f : Incoming) (is-sound : sound l ≡ true) (shape : Shap
         let w = brings l f is-sound shape e .heard in
         has-now (HeardTime (f .destinations) (speaker l f) (spokenTime l f)) (heard-lasts (f .destinations) (speaker l f) (spokenTime l f)) (record { destinations = w .destinations ∙ b .destinations; heard = w .heard; time = w .time })
 
-    pub heard-kept : (m d q t : ℕ) → 1 ≤ q → q ≤ 8 → Heard l m d q t → Heard after m d q t
+    pub heard-kept : (m d q t : ℕ) → 1 ≤ q → q ≤ mostLedgers → Heard l m d q t → Heard after m d q t
     heard-kept m d q t h₁ h₈ = has-kept (HeardTime d q t) (heard-lasts d q t) (still-heard d q t h₁ h₈) m
 
     -- what is heard afterwards was heard before, or is what the frame said
-    pub heard-from : (A : Type 0) (m d q t : ℕ) → 1 ≤ q → q ≤ 8 → Heard after m d q t
+    pub heard-from : (A : Type 0) (m d q t : ℕ) → 1 ≤ q → q ≤ mostLedgers → Heard after m d q t
         → (Heard l m d q t → A) → (m ≡ f .payment .0 → d ≡ f .destinations → q ≡ speaker l f → t ≡ spokenTime l f → A) → A
     heard-from A m d q t h₁ h₈ o old new =
         has-from (HeardTime d q t) (heard-lasts d q t) A m o old
@@ -198,7 +198,7 @@ module _ (l : Ledger) (f : Incoming) (is-sound : sound l ≡ true) (shape : Shap
         w : Hears (paymentFor l f) (heardPayment l f) (speaker l f) (spokenTime l f)
         w = brings l f is-sound shape e .heard
 
-        before : (q : ℕ) → 1 ≤ q → q ≤ 8 → (q ≡ speaker l f → ⊥) → HeardTime d q t (heardPayment l f) → Heard l (f .payment .0) d q t
+        before : (q : ℕ) → 1 ≤ q → q ≤ mostLedgers → (q ≡ speaker l f → ⊥) → HeardTime d q t (heardPayment l f) → Heard l (f .payment .0) d q t
         before zero h₁ h₈ z h = absurd (omega arith)
         before (suc k) h₁ h₈ z h =
             let was = sym (w .heard-other k (omega arith) z) ∙ h .heard in

@@ -14,7 +14,7 @@ use Rattle.agreement.specs.Claims.{HandedIn, OfGroup, Stays}
 use Rattle.agreement.proofs.Agreed.{Agrees, agrees-next, agrees-start, entryOf, nothing-held, set-up-is}
 use Rattle.agreement.proofs.Answers.{zero-or-nine}
 use Rattle.agreement.proofs.Calls.{answer, by-call, frameOf, heard-stays}
-use Rattle.agreement.proofs.Copies.{from-ledger, in-byte, other-destination, read-multicast}
+use Rattle.agreement.proofs.Copies.{from-ledger, in-byte, read-multicast}
 use Rattle.agreement.proofs.Hearing.{Heard, HeardTime, heard-from}
 use Rattle.soundness.proofs.Kept.{speaker}
 use Rattle.agreement.proofs.Clocks.{bound-next, given, given-few}
@@ -22,6 +22,7 @@ use Rattle.agreement.proofs.Handed.{Got, got-now}
 use Rattle.agreement.proofs.Logging.{log-stays, stays-once}
 use Rattle.agreement.proofs.Logs.{Log, Posted}
 use Rattle.agreement.proofs.Room.{Room, room-next}
+use Rattle.payment.proofs.OtherLaws.{other-destination}
 
 pub record Kept (n : ℕ) (table : List Entry) (w : World) : Type 0 where
   -- ledgers are sound, hold payments of the table, and have of each other only own times

@@ -3,7 +3,6 @@
 pub mod View
 pub mod Hearing
 pub mod Phases
-pub mod Counts
 pub mod Lists
 pub mod Logs
 pub mod Calls

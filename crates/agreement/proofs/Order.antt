@@ -1,22 +1,19 @@
 -- The order of postings: one at every ledger, and without gaps.
 -- Assumes nothing.
-use Prim.Native.Nat.{ℕ, zero, suc, _+_, _*_, _<_, _≤_}
+use Prim.Native.Nat.{ℕ, _<_, _≤_}
 use mathlib.Core.Path.{_≡_, refl, ap, sym, _∙_, subst}
 use mathlib.Core.List.{List}
 use mathlib.Core.Bool.{true}
-use mathlib.Core.Logic.{_⊎_, inl, inr, ⊎-elim}
+use mathlib.Core.Logic.{_⊎_, ⊎-elim}
 use native.Mathlib.Omega.{arith}
-use lib.Dec.{eqb, ltb}
 use borrow.Author.Tests.{eqb-false, eqb-true, ltb-true}
 use Rattle.common.specs.Places.{In}
-use Rattle.common.proofs.TestLaws.{and-left, and-right, both, or-cases, split}
+use Rattle.common.proofs.TestLaws.{both, or-cases, split}
 use Rattle.payment.specs.Ledgers.{has}
 use Rattle.payment.specs.Payments.{hasStamp, heardFrom, isPosted, isProposed, isStamped, isWaiting, stampOf, timeFrom}
 use Rattle.payment.specs.Right.{phaseRight}
 use Rattle.payment.specs.Stamps.{below}
-use Rattle.payment.specs.declared.Payment.{Payment}
 use Rattle.payment.specs.declared.Stamp.{Stamp}
-use Rattle.payment.proofs.GreatestLaws.{greatest-above, greatest-ledger}
 use Rattle.payment.proofs.RightLaws.{later-none, waiting-own}
 use Rattle.held.specs.Held.{at}
 use Rattle.held.proofs.FreeLaws.{behind-proposed, behind-stamped}
@@ -32,34 +29,8 @@ use Rattle.agreement.proofs.Invariant.{Kept}
 use Rattle.agreement.proofs.Lists.{precedes-either}
 use Rattle.agreement.proofs.Logs.{Posted}
 use Rattle.agreement.proofs.Stamps.{all-here, goes-here, one-stamp, time-here}
-
--- what it says that a stamp is below another
-below-says : (a b : Stamp) → below a b ≡ true → (a .time .0 < b .time .0) ⊎ ((a .time .0 ≡ b .time .0) × (a .ledger .0 < b .ledger .0))
-unfolding below
-below-says a b e =
-    ⊎-elim
-    (λ s. inl (ltb-true _ _ s))
-    (λ s. inr (eqb-true _ _ (and-left (eqb (a .time .0) (b .time .0)) _ s), ltb-true _ _ (and-right (eqb (a .time .0) (b .time .0)) _ s)))
-    (or-cases (ltb (a .time .0) (b .time .0)) _ e)
-
--- no two stamps are each below the other
-below-once : (a b : Stamp) → below a b ≡ true → below b a ≡ true → ⊥
-below-once a b p q =
-    ⊎-elim
-    (λ x. ⊎-elim (λ y. omega (arith, x, y)) (λ y. let z = y .0 in omega (arith, x, z)) (below-says b a q))
-    (λ x. let z = x .0 in let u = x .1 in ⊎-elim (λ y. omega (arith, z, y)) (λ y. let v = y .1 in omega (arith, u, v)) (below-says b a q))
-    (below-says a b p)
-
-below-not-later : (a b : Stamp) → below a b ≡ true → a .time .0 ≤ b .time .0
-below-not-later a b p = ⊎-elim (λ x. omega (arith, x)) (λ x. let z = x .0 in omega (arith, z)) (below-says a b p)
-
--- a proposal's time is not above the stamp's
-proposal-early : (p : Payment) (q : ℕ) → 1 ≤ q → q ≤ 8 → heardFrom p q ≡ true → timeFrom p q ≤ stampOf p .time .0
-proposal-early p zero h₁ h₈ e = absurd (omega arith)
-proposal-early p (suc q) h₁ h₈ e =
-    let top : timeFrom p (suc q) * 256 + suc q ≤ stampOf p .time .0 * 256 + stampOf p .ledger .0 = greatest-above (p .times) (p .heard) 8 (omega arith) q (omega arith) e in
-    let few : stampOf p .ledger .0 ≤ 8 = greatest-ledger (p .times) (p .heard) 8 in
-    omega (arith, top, few)
+use Rattle.payment.proofs.GreatestLaws.{proposal-early}
+use Rattle.payment.proofs.StampLaws.{below-not-later, below-once}
 
 module _ (n : ℕ) (table : List Entry) (law : Lawful n table) (w : World) (k : Kept n table w) where
   pub earlier : (j x y : ℕ) → OfGroup n j → Precedes x y (w .logs j) → Earlier (w .ledgers j) x y

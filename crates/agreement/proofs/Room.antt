@@ -18,7 +18,7 @@ use Rattle.agreement.specs.Claims.{Holds}
 use Rattle.agreement.proofs.Agreed.{Agrees, agrees-next, entryOf, of-table}
 use Rattle.agreement.proofs.Calls.{Well, by-call, frameOf}
 use Rattle.agreement.proofs.Copies.{to-destination}
-use Rattle.agreement.proofs.Counts.{count-le, count-lt}
+use Rattle.common.proofs.CountLaws.{count-le, count-lt}
 use Rattle.agreement.proofs.Entries.{entry-in, place-in}
 use Rattle.agreement.proofs.Found.{at-holds, holds-at}
 use Rattle.agreement.proofs.Hearing.{has-kept, has-now}

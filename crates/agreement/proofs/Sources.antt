@@ -1,21 +1,21 @@
 -- The named properties of source documents 000 and 003, said of our runs: what is one step from demand 3 and from soundness.
 -- Assumes nothing.
 use Prim.Native.Nat.{ℕ, suc, _*_, _<_, _≤_}
-use mathlib.Core.Path.{_≡_, ap, ap₂, sym, _∙_, subst}
+use mathlib.Core.Path.{_≡_, ap, sym, _∙_, subst}
 use mathlib.Core.List.{List}
 use mathlib.Core.Bool.{true, not, _&&_}
-use mathlib.Core.Logic.{_⊎_, inl, inr}
+use mathlib.Core.Logic.{_⊎_}
 use native.Mathlib.Omega.{arith}
 use lib.Dec.{ltb}
 use borrow.Author.Tests.{ltb-false, ltb-true, not-true}
 use Rattle.common.specs.Places.{In}
-use Rattle.common.proofs.TestLaws.{and-go, and-right, split}
+use Rattle.common.proofs.TestLaws.{and-go, and-right}
 use Rattle.payment.specs.Payments.{hasStamp, heardFrom, isPosted, proposal, stampOf, timeFrom}
 use Rattle.payment.specs.Right.{notAboveClock}
 use Rattle.payment.specs.Stamps.{below}
 use Rattle.payment.specs.declared.Stamp.{Stamp}
 use Rattle.payment.proofs.GreatestLaws.{greatest-above}
-use Rattle.payment.proofs.StampLaws.{below-tie, below-time, rank}
+use Rattle.payment.proofs.StampLaws.{below-or, rank}
 use Rattle.held.specs.Held.{at, limit}
 use Rattle.held.proofs.FreeLaws.{behind-proposed}
 use Rattle.held.proofs.ReflectLaws.{each-at, posted-at}
@@ -26,26 +26,11 @@ use Rattle.agreement.proofs.Hearing.{Heard}
 use Rattle.agreement.proofs.Invariant.{Kept, clock-bound, kept}
 use Rattle.agreement.proofs.Logs.{Posted}
 use Rattle.agreement.proofs.Stamps.{all-here, goes-there, stamp-heard, stamp-of-group}
-use Rattle.agreement.proofs.Full.{all-stamped}
-use Rattle.payment.specs.Ledgers.{has}
+use Rattle.payment.specs.Ledgers.{has, mostLedgers}
 use Rattle.payment.specs.Right.{phaseRight}
 use Rattle.agreement.proofs.Theorem.{demand-3}
 use Rattle.agreement.proofs.Order.{not-both}
-
--- of two stamps that differ one is below the other
-below-or : (a b : Stamp) → (a ≡ b → ⊥) → (below a b ≡ true) ⊎ (below b a ≡ true)
-below-or a b n =
-    split (ltb (a .time .0) (b .time .0)) (λ t. inl (below-time a b (ltb-true _ _ t)))
-    (λ t. split (ltb (b .time .0) (a .time .0)) (λ u. inr (below-time b a (ltb-true _ _ u)))
-    (λ u. let x = ltb-false (a .time .0) (b .time .0) t in
-    let y = ltb-false (b .time .0) (a .time .0) u in
-    let times : a .time .0 ≡ b .time .0 = omega (arith, x, y) in
-    split (ltb (a .ledger .0) (b .ledger .0)) (λ v. inl (below-tie a b times ∙ v))
-    (λ v. split (ltb (b .ledger .0) (a .ledger .0)) (λ z. inr (below-tie b a (sym times) ∙ z))
-    (λ z. let p = ltb-false (a .ledger .0) (b .ledger .0) v in
-    let q = ltb-false (b .ledger .0) (a .ledger .0) z in
-    let ledgers : a .ledger .0 ≡ b .ledger .0 = omega (arith, p, q) in
-    absurd (n (ap₂ (λ t l. record { time = record { 0 = t }; ledger = record { 0 = l } }) times ledgers))))))
+use Rattle.payment.proofs.RightLaws.{all-stamped}
 
 module _ (n : ℕ) (table : List Entry) (cs : List Call) (run : Run n table cs) where
   k : Kept n table (after n cs)
@@ -93,7 +78,7 @@ module _ (n : ℕ) (table : List Entry) (cs : List Call) (run : Run n table cs) 
   -- not above the clock
   pub record ValidStamp (p m : ℕ) (s : Stamp) (x : HasStamp (after n cs .ledgers p) m s) : Type 0 where
     pub all-heard : at (after n cs .ledgers p .payments) (x .at-place) .heard ≡ at (after n cs .ledgers p .payments) (x .at-place) .destinations
-    pub greatest : (q : ℕ) → q < 8 → heardFrom (at (after n cs .ledgers p .payments) (x .at-place)) (suc q) ≡ true
+    pub greatest : (q : ℕ) → q < mostLedgers → heardFrom (at (after n cs .ledgers p .payments) (x .at-place)) (suc q) ≡ true
         → rank (proposal (at (after n cs .ledgers p .payments) (x .at-place) .times) (suc q)) ≤ rank s
     pub own : Heard (after n cs .ledgers (s .ledger .0)) m (at (after n cs .ledgers p .payments) (x .at-place) .destinations) (s .ledger .0) (s .time .0)
     pub in-time : s .time .0 ≤ after n cs .ledgers p .clock .0
@@ -106,7 +91,7 @@ module _ (n : ℕ) (table : List Entry) (cs : List Call) (run : Run n table cs) 
       let sound = clauses l (k .agrees .well p (h .0) (h .1) .is-sound) .kept in
       record {
         all-heard = all-here n table (run .lawful) (after n cs) (k .agrees) p m s h x;
-        greatest = λ q g e. subst (λ r. rank (proposal (here .times) (suc q)) ≤ rank r) (x .so .1) (greatest-above (here .times) (here .heard) 8 (omega arith) q g e);
+        greatest = λ q g e. subst (λ r. rank (proposal (here .times) (suc q)) ≤ rank r) (x .so .1) (greatest-above (here .times) (here .heard) mostLedgers (omega arith) q g e);
         own = let g = stamp-of-group n table (run .lawful) (after n cs) (k .agrees) p m s h x in
             k .agrees .agreed p (s .ledger .0) m _ _ (h .0) (h .1) (g .0) (g .1) (stamp-heard n table (run .lawful) (after n cs) (k .agrees) p m s h x);
         in-time = subst (λ r. r .time .0 ≤ l .clock .0) (x .so .1)

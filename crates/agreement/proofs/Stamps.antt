@@ -1,23 +1,18 @@
 -- One stamp per payment wherever it is stamped, and no two alike.
 -- Assumes nothing.
 use Prim.Native.Nat.{ℕ, zero, suc, _-_, _<_, _≤_}
-use mathlib.Core.Path.{_≡_, refl, ap, ap₂, sym, _∙_, subst}
+use mathlib.Core.Path.{_≡_, refl, ap, sym, _∙_, subst}
 use mathlib.Core.List.{List}
-use mathlib.Core.Bool.{true, cond, _&&_}
-use mathlib.Core.Logic.{⊎-elim}
+use mathlib.Core.Bool.{true}
 use native.Mathlib.Omega.{arith}
-use borrow.Author.Tests.{eqb-true, not-true}
-use Rattle.common.proofs.TestLaws.{or-cases, split}
-use Rattle.frame.specs.declared.Time.{Time}
-use Rattle.payment.specs.Ledgers.{has}
-use Rattle.payment.specs.Payments.{greatest, hasStamp, heardFrom, isPosted, isStamped, proposal, stampOf, timeFrom, timeIn}
+use borrow.Author.Tests.{not-true}
+use Rattle.payment.specs.Ledgers.{has, mostLedgers}
+use Rattle.payment.specs.Payments.{greatest, heardFrom, stampOf, timeFrom}
 use Rattle.payment.specs.Right.{lawful, phaseRight}
-use Rattle.payment.specs.Stamps.{below}
 use Rattle.payment.specs.declared.Payment.{Payment}
 use Rattle.payment.specs.declared.Stamp.{Stamp}
 use Rattle.payment.proofs.KeptLaws.{greatest-proposed}
 use Rattle.payment.proofs.LedgerLaws.{place}
-use Rattle.payment.proofs.RightLaws.{later-stamp}
 use Rattle.held.specs.Held.{at, limit}
 use Rattle.held.proofs.ReflectLaws.{each-at}
 use Rattle.ledger.specs.declared.Ledger.{Ledger}
@@ -33,33 +28,11 @@ use Rattle.agreement.proofs.Hearing.{Heard, HeardTime, at-one-place}
 use Rattle.agreement.proofs.Calls.{Well}
 use Rattle.agreement.proofs.Entries.{in-group, one-entry}
 use Rattle.agreement.proofs.Agreed.{Agrees, Goes, entryOf}
-
--- the greatest proposal goes by the heard ledgers' times alone
-greatest-same : (ts us : List Time) (heard n : ℕ) → ((k : ℕ) → k < n → has heard (suc k) ≡ true → timeIn ts (suc k) ≡ timeIn us (suc k))
-    → greatest ts heard n ≡ greatest us heard n
-unfolding greatest
-greatest-same ts us heard zero h = refl
-greatest-same ts us heard (suc n) h =
-    let rest = greatest-same ts us heard n (λ k l. h k (omega arith)) in
-    split (has heard (suc n))
-    (λ t. ap₂ (λ best p. cond (has heard (suc n) && below best p) p best) rest (ap (λ x. record { time = x; ledger = record { 0 = suc n } }) (h n (omega arith) t)))
-    (λ t. ap (λ b. cond (b && below (greatest ts heard n) (proposal ts (suc n))) (proposal ts (suc n)) (greatest ts heard n)) t
-    ∙ rest
-    ∙ sym (ap (λ b. cond (b && below (greatest us heard n) (proposal us (suc n))) (proposal us (suc n)) (greatest us heard n)) t))
-
--- a stamped or posted payment has heard every destination
-pub stamp-all : (own : ℕ) (p : Payment) → hasStamp p ≡ true → phaseRight own p ≡ true → p .heard ≡ p .destinations
-stamp-all own p s r = eqb-true _ _ (sym (later-stamp own p (not-below 0 (omega arith)) (not-below 1 (omega arith)) s) ∙ r)
-  where
-    not-below : (k : ℕ) → k < 2 → p .phase ≡ k → ⊥
-    not-below k h z =
-        ⊎-elim
-        (λ t. let q : p .phase ≡ 2 = eqb-true _ _ t in omega (arith, q, z))
-        (λ t. let q : p .phase ≡ 3 = eqb-true _ _ t in omega (arith, q, z))
-        (or-cases (isStamped p) (isPosted p) s)
+use Rattle.payment.proofs.RightLaws.{stamp-all}
+use Rattle.payment.proofs.GreatestLaws.{greatest-same}
 
 -- one ledger's own times differ between payments
-pub own-times-differ : (l : Ledger) → sound l ≡ true → (x y d g q t : ℕ) → 1 ≤ q → q ≤ 8 → Heard l x d q t → Heard l y g q t → x ≡ y
+pub own-times-differ : (l : Ledger) → sound l ≡ true → (x y d g q t : ℕ) → 1 ≤ q → q ≤ mostLedgers → Heard l x d q t → Heard l y g q t → x ≡ y
 own-times-differ l s x y d g zero t h₁ h₈ u v = absurd (omega arith)
 own-times-differ l s x y d g (suc k) t h₁ h₈ u v =
     by-place (u .at-place) (v .at-place)
@@ -130,7 +103,7 @@ module _ (n : ℕ) (table : List Entry) (law : Lawful n table) (w : World) (a : 
 
     proposed : (heardFrom here (s .ledger .0) ≡ true) × (timeFrom here (s .ledger .0) ≡ s .time .0)
     proposed =
-        let p = greatest-proposed (here .times) (here .heard) 8 (s .ledger .0 - 1) (ap (λ r. r .ledger .0) (x .so .1) ∙ stamp-ledger) in
+        let p = greatest-proposed (here .times) (here .heard) mostLedgers (s .ledger .0 - 1) (ap (λ r. r .ledger .0) (x .so .1) ∙ stamp-ledger) in
         subst (λ q. (heardFrom here q ≡ true) × (timeFrom here q ≡ s .time .0)) (sym stamp-ledger) (p .0, ap (λ t. t .0) (p .1) ∙ ap (λ r. r .time .0) (x .so .1))
 
     pub stamp-of-group : OfGroup n (s .ledger .0)
@@ -146,11 +119,11 @@ module _ (n : ℕ) (table : List Entry) (law : Lawful n table) (w : World) (a : 
       let way = one-way j k m (p .destinations) (q .destinations) hj hk (goes-here j m s hj x) (goes-here k m r hk y) in
       let heard = all-here j m s hj x ∙ way ∙ sym (all-here k m r hk y) in
       sym (x .so .1)
-      ∙ greatest-same (p .times) (q .times) (p .heard) 8
+      ∙ greatest-same (p .times) (q .times) (p .heard) mostLedgers
       (λ i h e. ap (λ t. record { 0 = t })
       (one-time j k m (p .destinations) (q .destinations) (suc i) _ _ hj hk (in-group-here j m s hj x (suc i) e)
       (time-here j m s hj x (suc i) e) (time-here k m r hk y (suc i) (ap (λ b. has b (suc i)) (sym heard) ∙ e))))
-      ∙ ap (λ b. greatest (q .times) b 8) heard
+      ∙ ap (λ b. greatest (q .times) b mostLedgers) heard
       ∙ y .so .1
 
   pub no-two-alike : (j k x y : ℕ) (s : Stamp) → OfGroup n j → OfGroup n k → HasStamp (w .ledgers j) x s → HasStamp (w .ledgers k) y s → x ≡ y

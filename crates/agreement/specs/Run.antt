@@ -10,7 +10,7 @@ use lib.ListN.{getD, length, take}
 use Rattle.common.specs.Places.{In, count}
 use Rattle.frame.specs.Frames.{frameBytes, propose, total, valuesOf}
 use Rattle.frame.specs.declared.Frame.the-variants.{Multicast}
-use Rattle.payment.specs.Ledgers.{has}
+use Rattle.payment.specs.Ledgers.{has, mostLedgers}
 use Rattle.held.specs.Held.{limit}
 use Rattle.ledger.specs.State.{setUp}
 use Rattle.ledger.specs.Step.{step}
@@ -28,7 +28,7 @@ noEntry = record { number = 0; destinations = 0 }
 -- the payments of a run of N ledgers
 pub record Lawful (n : ℕ) (table : List Entry) : Type 0 where
   -- N from 1 to 8
-  pub ledgers : (1 ≤ n) × (n ≤ 8)
+  pub ledgers : (1 ≤ n) × (n ≤ mostLedgers)
   -- payments have different numbers
   pub differ : (i j : ℕ) → i < j → j < length table → getD table i noEntry .number ≡ getD table j noEntry .number → ⊥
   -- non-zero, of 32 bits

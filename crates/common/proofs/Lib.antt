@@ -5,3 +5,4 @@ pub mod TestLaws
 pub mod PlaceLaws
 pub mod OrderLaws
 pub mod ByteLaws
+pub mod CountLaws

@@ -4,6 +4,7 @@ use Prim.Native.Nat.{ℕ}
 use mathlib.Core.Bool.{Bool, cond, _&&_}
 use lib.Dec.{leb}
 use lib.ListN.{replicate}
+use Rattle.payment.specs.Ledgers.{mostLedgers}
 use Rattle.payment.specs.Payments.{noTime, waiting}
 use Rattle.payment.specs.declared.Payment.{Payment}
 use Rattle.held.specs.Held.{limit}
@@ -38,7 +39,7 @@ fresh group own =
 
 -- ledgers are 1 to N, N from 1 to 8 (1, at set-up: N outside 1..8 or own number outside 1..N)
 abbrev pub lawfulSetUp : ℕ → ℕ → Bool
-lawfulSetUp group own = leb 1 group && (leb group 8 && (leb 1 own && leb own group))
+lawfulSetUp group own = leb 1 group && (leb group mostLedgers && (leb 1 own && leb own group))
 
 -- set-up refused, by answer 1, returns the all-zero state; any other hands back the fresh state of ledger `own` of N
 unfoldable pub setUp : ℕ → ℕ → SetUp

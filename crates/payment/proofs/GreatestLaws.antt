@@ -1,7 +1,7 @@
 -- The greatest proposal is not below any that was heard, and its time is lawful where theirs are.
 -- Assumes nothing.
-use Prim.Native.Nat.{ℕ, zero, suc, _<_, _≤_}
-use mathlib.Core.Path.{_≡_, refl, sym, _∙_, subst}
+use Prim.Native.Nat.{ℕ, zero, suc, _+_, _*_, _<_, _≤_}
+use mathlib.Core.Path.{_≡_, refl, ap, ap₂, sym, _∙_, subst}
 use mathlib.Core.List.{List}
 use mathlib.Core.Bool.{true, false, cond, _&&_}
 use native.Mathlib.Nat.{le-of-lt, le-refl, le-trans}
@@ -11,8 +11,9 @@ use Rattle.common.proofs.PlaceLaws.{last-or-before}
 use Rattle.common.proofs.TestLaws.{and-go, and-left, and-right, split}
 use Rattle.frame.specs.declared.Time.{Time}
 use Rattle.payment.specs.Ledgers.{has}
-use Rattle.payment.specs.Payments.{greatest, proposal, timeIn}
+use Rattle.payment.specs.Payments.{greatest, heardFrom, proposal, stampOf, timeFrom, timeIn}
 use Rattle.payment.specs.Stamps.{below}
+use Rattle.payment.specs.declared.Payment.{Payment}
 use Rattle.payment.specs.declared.Stamp.{Stamp}
 use Rattle.payment.proofs.StampLaws.{below-rank, rank}
 
@@ -66,3 +67,24 @@ module _ (times : List Time) (heard : ℕ) where
   greatest-none zero = λ e. refl
   greatest-none (suc n) =
       next (λ s. s .ledger .0 ≡ 0 → rank s ≡ 0) n (λ t e. absurd (omega arith)) (λ t e. greatest-none n e)
+
+-- a proposal's time is not above the stamp's
+pub proposal-early : (p : Payment) (q : ℕ) → 1 ≤ q → q ≤ 8 → heardFrom p q ≡ true → timeFrom p q ≤ stampOf p .time .0
+proposal-early p zero h₁ h₈ e = absurd (omega arith)
+proposal-early p (suc q) h₁ h₈ e =
+    let top : timeFrom p (suc q) * 256 + suc q ≤ stampOf p .time .0 * 256 + stampOf p .ledger .0 = greatest-above (p .times) (p .heard) 8 (omega arith) q (omega arith) e in
+    let few : stampOf p .ledger .0 ≤ 8 = greatest-ledger (p .times) (p .heard) 8 in
+    omega (arith, top, few)
+
+-- the greatest proposal goes by the heard ledgers' times alone
+pub greatest-same : (ts us : List Time) (heard n : ℕ) → ((k : ℕ) → k < n → has heard (suc k) ≡ true → timeIn ts (suc k) ≡ timeIn us (suc k))
+    → greatest ts heard n ≡ greatest us heard n
+unfolding greatest
+greatest-same ts us heard zero h = refl
+greatest-same ts us heard (suc n) h =
+    let rest = greatest-same ts us heard n (λ k l. h k (omega arith)) in
+    split (has heard (suc n))
+    (λ t. ap₂ (λ best p. cond (has heard (suc n) && below best p) p best) rest (ap (λ x. record { time = x; ledger = record { 0 = suc n } }) (h n (omega arith) t)))
+    (λ t. ap (λ b. cond (b && below (greatest ts heard n) (proposal ts (suc n))) (proposal ts (suc n)) (greatest ts heard n)) t
+    ∙ rest
+    ∙ sym (ap (λ b. cond (b && below (greatest us heard n) (proposal us (suc n))) (proposal us (suc n)) (greatest us heard n)) t))

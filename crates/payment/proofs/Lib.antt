@@ -7,3 +7,4 @@ pub mod RightLaws
 pub mod KeptLaws
 pub mod HearLaws
 pub mod GreatestLaws
+pub mod OtherLaws

@@ -1,16 +1,17 @@
 -- Laws of the clauses of soundness that speak of one payment or of two, one for each way through the definitions.
 -- Assumes nothing.
 use Prim.Native.Nat.{ℕ, zero, suc, _%_, _^_, _<_, _≤_}
-use mathlib.Core.Path.{_≡_, refl, ap, sym, _∙_}
-use mathlib.Core.Bool.{true, false, not}
+use mathlib.Core.Path.{_≡_, refl, ap, sym, _∙_, subst}
+use mathlib.Core.Bool.{true, false, cond, not, _&&_}
+use mathlib.Core.Logic.{⊎-elim}
 use native.Mathlib.Omega.{arith}
 use lib.Dec.{eqb, leb}
-use borrow.Author.Tests.{eq-eqb, le-leb, lt-leb, ne-eqb}
-use Rattle.common.proofs.PlaceLaws.{every-same}
-use Rattle.common.proofs.TestLaws.{and-false}
+use borrow.Author.Tests.{eq-eqb, eqb-false, eqb-true, le-leb, lt-leb, ne-eqb}
+use Rattle.common.proofs.PlaceLaws.{every-at, every-same}
+use Rattle.common.proofs.TestLaws.{and-false, and-left, and-right, both, or-cases, split}
 use native.Mathlib.Nat.{zero-div}
 use Rattle.payment.specs.Ledgers.{has}
-use Rattle.payment.specs.Payments.{allHeard, hasStamp, heardFrom, isTime, lastTime, timeFrom}
+use Rattle.payment.specs.Payments.{allHeard, hasStamp, heardFrom, isPosted, isProposed, isStamped, isTime, isWaiting, lastTime, timeFrom}
 use Rattle.payment.specs.Right.{heardRight, phaseRight, timeRight, unused}
 use Rattle.payment.specs.declared.Payment.{Payment}
 
@@ -85,3 +86,46 @@ module _ (p : Payment) where
   unused-rest n d h f =
       simp (eq-eqb _ _ n, eq-eqb _ _ d, eq-eqb _ _ h, eq-eqb _ _ f)
       (every-same 8 _ _ (λ k l. sym (right-unheard p (suc k) (ap (λ b. has b (suc k)) h ∙ has-empty (suc k)))))
+
+-- a stamped or posted payment has heard every destination
+pub stamp-all : (own : ℕ) (p : Payment) → hasStamp p ≡ true → phaseRight own p ≡ true → p .heard ≡ p .destinations
+stamp-all own p s r = eqb-true _ _ (sym (later-stamp own p (not-below 0 (omega arith)) (not-below 1 (omega arith)) s) ∙ r)
+  where
+    not-below : (k : ℕ) → k < 2 → p .phase ≡ k → ⊥
+    not-below k h z =
+        ⊎-elim
+        (λ t. let q : p .phase ≡ 2 = eqb-true _ _ t in omega (arith, q, z))
+        (λ t. let q : p .phase ≡ 3 = eqb-true _ _ t in omega (arith, q, z))
+        (or-cases (isStamped p) (isPosted p) s)
+
+-- heard ones are destinations
+pub heard-destination : (p : Payment) → heardRight p ≡ true → (k : ℕ) → k < 8 → heardFrom p (suc k) ≡ true → has (p .destinations) (suc k) ≡ true
+unfolding heardRight
+heard-destination p r k h e =
+    split (has (p .destinations) (suc k)) (λ t. t)
+    (λ t. both (every-at 8 (λ k. timeRight p (suc k)) r k h) (right-elsewhere p (suc k) e t))
+
+-- a payment whose destinations are all heard has a stamp
+pub all-stamped : (own : ℕ) (p : Payment) → phaseRight own p ≡ true → heardFrom p own ≡ true → p .heard ≡ p .destinations → hasStamp p ≡ true
+all-stamped own p r h e =
+    split (isWaiting p)
+    (λ t. both r (waiting-own own p (eqb-true _ _ t) h))
+    (λ t. split (isProposed p)
+    (λ u. both r (proposed-own own p (eqb-true _ _ u) h ∙ ap not (eq-eqb _ _ e)))
+    (λ u. split (hasStamp p) (λ s. s) (λ s. both r (later-none own p (eqb-false _ _ t) (eqb-false _ _ u) s))))
+
+-- a payment past waiting has its own time
+pub past-waiting : (own : ℕ) (p : Payment) → phaseRight own p ≡ true → isWaiting p ≡ false → has (p .destinations) own ≡ true → heardFrom p own ≡ true
+unfolding phaseRight
+past-waiting own p r w d =
+    let later = subst (λ b. cond b (not (heardFrom p own) && not (eqb (p .heard) 0)) (cond (isProposed p) (heardFrom p own && not (allHeard p)) (hasStamp p && allHeard p)) ≡ true) w r in
+    split (isProposed p)
+    (λ t. and-left (heardFrom p own) _ (subst (λ b. cond b (heardFrom p own && not (allHeard p)) (hasStamp p && allHeard p) ≡ true) t later))
+    (λ t. ap (λ b. has b own) (eqb-true _ _ (and-right (hasStamp p) _ (subst (λ b. cond b (heardFrom p own && not (allHeard p)) (hasStamp p && allHeard p) ≡ true) t later))) ∙ d)
+
+pub unused-heard : (p : Payment) → unused p ≡ true → (q : ℕ) → heardFrom p q ≡ false
+unfolding unused
+unused-heard p e q =
+    ap (λ b. heardFrom (record { number = p .number; destinations = p .destinations; heard = b; times = p .times; phase = p .phase }) q)
+    (eqb-true _ _ (and-left (eqb (p .heard) 0) _ (and-right (eqb (p .destinations) 0) _ (and-right (eqb (p .number .0) 0) _ e))))
+    ∙ has-empty q

@@ -1,12 +1,13 @@
 -- Laws of the order of stamps.
 -- Assumes nothing.
 use Prim.Native.Nat.{ℕ, _+_, _*_, _<_, _≤_}
-use mathlib.Core.Path.{_≡_, sym, _∙_}
+use mathlib.Core.Path.{_≡_, ap₂, sym, _∙_}
 use mathlib.Core.Bool.{true, false}
 use native.Mathlib.Omega.{arith}
 use lib.Dec.{eqb, ltb}
 use borrow.Author.Tests.{eq-eqb, eqb-false, eqb-true, le-ltb, lt-ltb, ltb-false, ltb-true, ne-eqb}
-use Rattle.common.proofs.TestLaws.{same, split}
+use Rattle.common.proofs.TestLaws.{and-left, and-right, or-cases, same, split}
+use mathlib.Core.Logic.{_⊎_, inl, inr, ⊎-elim}
 use Rattle.payment.specs.Stamps.{below}
 use Rattle.payment.specs.declared.Stamp.{Stamp}
 
@@ -38,3 +39,38 @@ below-rank a b ha hb =
     (λ e. let q = eqb-true _ _ e in
     below-tie a b q ∙ ltb-iff (a .ledger .0) (b .ledger .0) (rank a) (rank b) (λ l. omega arith) (λ l. omega arith))
     (λ e. let n = eqb-false _ _ e in below-later a b h n ∙ sym (le-ltb (rank a) (rank b) (omega arith))))
+
+-- what it says that a stamp is below another
+below-says : (a b : Stamp) → below a b ≡ true → (a .time .0 < b .time .0) ⊎ ((a .time .0 ≡ b .time .0) × (a .ledger .0 < b .ledger .0))
+unfolding below
+below-says a b e =
+    ⊎-elim
+    (λ s. inl (ltb-true _ _ s))
+    (λ s. inr (eqb-true _ _ (and-left (eqb (a .time .0) (b .time .0)) _ s), ltb-true _ _ (and-right (eqb (a .time .0) (b .time .0)) _ s)))
+    (or-cases (ltb (a .time .0) (b .time .0)) _ e)
+
+-- no two stamps are each below the other
+pub below-once : (a b : Stamp) → below a b ≡ true → below b a ≡ true → ⊥
+below-once a b p q =
+    ⊎-elim
+    (λ x. ⊎-elim (λ y. omega (arith, x, y)) (λ y. let z = y .0 in omega (arith, x, z)) (below-says b a q))
+    (λ x. let z = x .0 in let u = x .1 in ⊎-elim (λ y. omega (arith, z, y)) (λ y. let v = y .1 in omega (arith, u, v)) (below-says b a q))
+    (below-says a b p)
+
+pub below-not-later : (a b : Stamp) → below a b ≡ true → a .time .0 ≤ b .time .0
+below-not-later a b p = ⊎-elim (λ x. omega (arith, x)) (λ x. let z = x .0 in omega (arith, z)) (below-says a b p)
+
+-- of two stamps that differ one is below the other
+pub below-or : (a b : Stamp) → (a ≡ b → ⊥) → (below a b ≡ true) ⊎ (below b a ≡ true)
+below-or a b n =
+    split (ltb (a .time .0) (b .time .0)) (λ t. inl (below-time a b (ltb-true _ _ t)))
+    (λ t. split (ltb (b .time .0) (a .time .0)) (λ u. inr (below-time b a (ltb-true _ _ u)))
+    (λ u. let x = ltb-false (a .time .0) (b .time .0) t in
+    let y = ltb-false (b .time .0) (a .time .0) u in
+    let times : a .time .0 ≡ b .time .0 = omega (arith, x, y) in
+    split (ltb (a .ledger .0) (b .ledger .0)) (λ v. inl (below-tie a b times ∙ v))
+    (λ v. split (ltb (b .ledger .0) (a .ledger .0)) (λ z. inr (below-tie b a (sym times) ∙ z))
+    (λ z. let p = ltb-false (a .ledger .0) (b .ledger .0) v in
+    let q = ltb-false (b .ledger .0) (a .ledger .0) z in
+    let ledgers : a .ledger .0 ≡ b .ledger .0 = omega (arith, p, q) in
+    absurd (n (ap₂ (λ t l. record { time = record { 0 = t }; ledger = record { 0 = l } }) times ledgers))))))

@@ -5,6 +5,10 @@ use mathlib.Core.Bool.{Bool, false, cond}
 use Rattle.common.specs.Bits.{bit}
 use Rattle.common.specs.Places.{count}
 
+-- ledgers are 1 to N, N from 1 to 8
+abbrev pub mostLedgers : ℕ
+mostLedgers = 8
+
 -- ledger k is among the ledgers of a byte
 unfoldable pub has : ℕ → ℕ → Bool
 has ledgers zero = false

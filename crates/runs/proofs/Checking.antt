@@ -16,7 +16,7 @@ use Rattle.frame.specs.Frames.{propose, total}
 use Rattle.payment.specs.Ledgers.{has}
 use Rattle.held.specs.Held.{limit}
 use Rattle.agreement.specs.Run.{Call, Calls, Entry, Lawful, May, Run, World, after, multicastCopy, noEntry}
-use Rattle.agreement.proofs.Counts.{count-most}
+use Rattle.common.proofs.CountLaws.{count-most}
 
 unfoldable pub sameBytes : List ℕ → List ℕ → Bool
 sameBytes [] [] = true
