@@ -1,0 +1,105 @@
+-- A record does the same whatever follows it, and one that goes on is whole.
+-- Assumes nothing.
+use Prim.Native.Nat.{ℕ, _+_, _<_, _≤_}
+use mathlib.Core.Path.{_≡_, refl, ap, ap₂, sym, _∙_}
+use mathlib.Core.List.{List, _∷_, _++_}
+use mathlib.Core.Bool.{Bool, true, false, cond, not, _||_}
+use native.Mathlib.Omega.{arith}
+use borrow.Author.Tests.{eqb-false, eqb-true, le-ltb, ltb-false, not-false}
+use lib.Dec.{eqb, ltb}
+use lib.ListN.{drop, getD, length, length-append, length-drop, take, List·getD-append}
+use lib.Seq.{drop-append-le, take-append-le}
+use Rattle.common.proofs.TestLaws.{or-left, or-right, split}
+use Rattle.frame.specs.Digits.{sum}
+use Rattle.frame.specs.Frames.{body, kindIn, known, multicast, propose}
+use Rattle.records.specs.Records.{frameIn, lawfulGroup, lawfulTarget, recordTotal, records, secondIn, started, stepped, stops, turn}
+use Rattle.records.specs.declared.Did.the-variants.{SetUp}
+use Rattle.records.specs.declared.Group.{Group}
+use Rattle.records.proofs.RecordLaws.{frame-multicast, frame-propose, stops-unknown, total-propose, total-second, turn-starts, turn-steps, turn-stops}
+
+-- a record that goes on has a known kind and is whole
+pub goes-known : (g : Group) (bytes : List ℕ) → stops g bytes ≡ false → known records (kindIn bytes) ≡ true
+unfolding stops
+goes-known g bytes e = not-false (known records (kindIn bytes)) (or-left (not (known records (kindIn bytes))) _ e)
+
+pub goes-some : (g : Group) (bytes : List ℕ) → stops g bytes ≡ false → 2 ≤ recordTotal (kindIn bytes)
+unfolding recordTotal
+goes-some g bytes e =
+    total-second (kindIn bytes)
+    (λ z. let known = goes-known g bytes e in let z2 = rw known at z in omega arith)
+
+pub goes-whole : (g : Group) (bytes : List ℕ) → stops g bytes ≡ false → recordTotal (kindIn bytes) ≤ length bytes
+unfolding stops
+goes-whole g bytes e =
+    ltb-false (length bytes) (recordTotal (kindIn bytes))
+    (or-left (ltb (length bytes) (recordTotal (kindIn bytes))) _ (or-right (not (known records (kindIn bytes))) _ e))
+
+-- the parts of a record, whatever follows
+module _ (bytes more : List ℕ) where
+  pub kind-follows : 1 ≤ length bytes → kindIn (bytes ++ more) ≡ kindIn bytes
+  kind-follows h = List·getD-append bytes more 0 0 (omega arith)
+
+  second-follows : 2 ≤ length bytes → secondIn (bytes ++ more) ≡ secondIn bytes
+  second-follows h = List·getD-append bytes more 0 1 (omega arith)
+
+  body-follows : (n : ℕ) → 2 + n ≤ length bytes → take n (drop 2 (bytes ++ more)) ≡ take n (drop 2 bytes)
+  body-follows n h =
+      ap (take n) (drop-append-le 2 bytes more (omega arith))
+      ∙ take-append-le n (drop 2 bytes) more (omega (arith, length-drop 2 bytes))
+
+-- whether a record ends the run, from its kind, the byte after it, and whether it is cut short
+abbrev verdict : Group → ℕ → ℕ → Bool → Bool
+verdict g kind second short =
+    not (known records kind)
+    || (short || cond (eqb kind 16) (not (lawfulGroup second)) (not (lawfulTarget g second)))
+
+module _ (g : Group) (bytes more list : List ℕ) (some : 1 ≤ length bytes) (whole : recordTotal (kindIn bytes) ≤ length bytes) where
+  kind : kindIn (bytes ++ more) ≡ kindIn bytes
+  kind = kind-follows bytes more some
+
+  same-total : recordTotal (kindIn (bytes ++ more)) ≡ recordTotal (kindIn bytes)
+  same-total = ap recordTotal kind
+
+  neither-short : ltb (length (bytes ++ more)) (recordTotal (kindIn (bytes ++ more))) ≡ ltb (length bytes) (recordTotal (kindIn bytes))
+  neither-short =
+      le-ltb (length (bytes ++ more)) (recordTotal (kindIn (bytes ++ more))) (omega (arith, same-total, length-append bytes more))
+      ∙ sym (le-ltb (length bytes) (recordTotal (kindIn bytes)) whole)
+
+  stops-follows : stops g (bytes ++ more) ≡ stops g bytes
+  unfolding stops
+  stops-follows =
+      split (eqb (recordTotal (kindIn bytes)) 0)
+      (λ t. let none = eqb-true (recordTotal (kindIn bytes)) 0 t in stops-unknown g (bytes ++ more) (same-total ∙ none) ∙ sym (stops-unknown g bytes none))
+      (λ t. let two = total-second (kindIn bytes) (eqb-false (recordTotal (kindIn bytes)) 0 t) in
+      ap (λ k. verdict g k (secondIn (bytes ++ more)) (ltb (length (bytes ++ more)) (recordTotal (kindIn (bytes ++ more))))) kind
+      ∙ ap₂ (λ x y. verdict g (kindIn bytes) x y) (second-follows bytes more (omega arith)) neither-short)
+
+  -- the frame of a step record that goes on
+  frame-follows : stops g bytes ≡ false → (kindIn bytes ≡ 16 → ⊥) → frameIn (bytes ++ more) ≡ frameIn bytes
+  unfolding recordTotal known body sum
+  frame-follows go n =
+      split (eqb (kindIn bytes) 17)
+      (λ t. let e = eqb-true (kindIn bytes) 17 t in
+      let seven : recordTotal (kindIn bytes) ≡ 7 = ap recordTotal e in
+      frame-multicast (bytes ++ more) (kind ∙ e) ∙ ap (λ l. multicast .kind ∷ l) (body-follows bytes more 5 (omega arith)) ∙ sym (frame-multicast bytes e))
+      (λ t. let e = eqb-false (kindIn bytes) 17 t in
+      let some = goes-some g bytes go in
+      let ten = total-propose (kindIn bytes) n e (λ z. omega arith) in
+      frame-propose (bytes ++ more) (λ q. e (sym kind ∙ q)) ∙ ap (λ l. propose .kind ∷ l) (body-follows bytes more 8 (omega arith)) ∙ sym (frame-propose bytes e))
+
+  -- whatever follows a whole record, it does the same
+  pub turn-follows : turn g (bytes ++ more) list ≡ turn g bytes list
+  turn-follows =
+      split (stops g bytes)
+      (λ t. turn-stops g (bytes ++ more) list (stops-follows ∙ t) ∙ sym (turn-stops g bytes list t))
+      (λ t. let some = goes-some g bytes t in
+      let second = second-follows bytes more (omega arith) in
+      split (eqb (kindIn bytes) 16)
+      (λ u. let e = eqb-true (kindIn bytes) 16 u in
+      turn-starts g (bytes ++ more) list (stops-follows ∙ t) (kind ∙ e)
+      ∙ ap (λ n. record { group = started n; did = SetUp n; list = list }) second
+      ∙ sym (turn-starts g bytes list t e))
+      (λ u. let n = eqb-false (kindIn bytes) 16 u in
+      turn-steps g (bytes ++ more) list (frameIn bytes) (stops-follows ∙ t) (λ q. n (sym kind ∙ q)) (frame-follows t n)
+      ∙ ap (λ k. stepped g k (frameIn bytes) list) second
+      ∙ sym (turn-steps g bytes list (frameIn bytes) t n refl)))
