@@ -2,6 +2,10 @@
 use libc::STDIN_FILENO;
 ghost use Prim.Native.Nat.{_≤_, _<_};
 ghost use lib.ListN.{length};
+ghost use mathlib.Core.Path.{_≡_};
+ghost use Rattle.frame.specs.Frames.{kindIn};
+ghost use Rattle.records.specs.Records.{recordTotal};
+ghost use Rattle.drill.specs.Stream.{waiting};
 
 // The part of the buffer that is still to be read, and whether no more input comes.
 pub(crate) struct Hand {
@@ -22,7 +26,9 @@ pub(crate) fn none() -> Hand
 }
 
 // Whether the record at the start is not whole yet, and more input may come.
-pub(crate) fn waits(bytes: &[u8], last: bool) -> bool {
+pub(crate) fn waits(bytes: &[u8], last: bool) -> bool
+    ensures { λ r. ⌜ r ≡ waiting last (now (bytes .entry)) ⌝ }
+{
     if last {
         return false;
     }
@@ -43,7 +49,8 @@ pub(crate) fn is_spent(bytes: &[u8], last: bool) -> bool {
 // How many bytes the record at the start takes: at least its kind, and at most all.
 pub(crate) fn taken(bytes: &[u8]) -> usize
     requires { ⌜ 1 ≤ length (now bytes) ⌝ }
-    ensures { λ r. ⌜ (1 ≤ r) × (r ≤ length (now (bytes .entry))) ⌝ }
+    ensures within { λ r. ⌜ (1 ≤ r) × (r ≤ length (now (bytes .entry))) ⌝ }
+    ensures whole { λ r. ⌜ (1 ≤ recordTotal (kindIn (now (bytes .entry))) → recordTotal (kindIn (now (bytes .entry))) ≤ length (now (bytes .entry)) → r ≡ recordTotal (kindIn (now (bytes .entry)))) ⌝ }
 {
     let size = records::total(bytes[0]);
     if size < 1 {

@@ -5,7 +5,8 @@ use bytes::Hand;
 use day::Day;
 use libc::STDOUT_FILENO;
 ghost use Prim.Native.Nat.{_≤_};
-ghost use lib.ListN.{length};
+ghost use lib.ListN.{drop, length, take};
+ghost use Rattle.drill.specs.Stream.{Prints};
 
 // Every line fits in this.
 const LINE: usize = 1024;
@@ -19,7 +20,8 @@ struct Pass {
 
 // Reads the records at hand, as long as a line has room.
 fn read_all(begun: Day, input: &[u8], last: bool, out: &mut [u8]) -> Pass
-    ensures { λ r. ⌜ (r .read ≤ length (now (input .entry))) × (r .printed ≤ length (now (out .entry))) ⌝ }
+    ensures within { λ r. ⌜ (r .read ≤ length (now (input .entry))) × (r .printed ≤ length (now (out .entry))) ⌝ }
+    ensures prints { λ r. ⌜ Prints begun (now (input .entry)) last (take (r .printed) (now (out .exit))) (r .day) (drop (r .read) (now (input .entry))) ⌝ }
 {
     let mut day = begun;
     let mut read: usize = 0;

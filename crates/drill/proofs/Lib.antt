@@ -1,0 +1,3 @@
+-- Laws of reading in parts.
+-- Assumes nothing.
+pub mod StreamLaws
