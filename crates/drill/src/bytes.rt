@@ -1,7 +1,7 @@
 // The bytes of the input that are at hand.
 use libc::STDIN_FILENO;
-ghost use Prim.Native.Nat.{_≤_, _<_};
-ghost use lib.ListN.{length};
+ghost use Prim.Native.Nat.{_-_, _≤_};
+ghost use lib.ListN.{drop, length, take};
 ghost use mathlib.Core.Path.{_≡_};
 ghost use Rattle.frame.specs.Frames.{kindIn};
 ghost use Rattle.records.specs.Records.{recordTotal};
@@ -65,7 +65,8 @@ pub(crate) fn taken(bytes: &[u8]) -> usize
 // Moves the bytes that are left to the front, and gives their number.
 fn keep(buffer: &mut [u8], at: usize, filled: usize) -> usize
     requires { ⌜ (at ≤ filled) × (filled ≤ length (now buffer)) ⌝ }
-    ensures { λ r. ⌜ r ≤ length (now (buffer .entry)) ⌝ }
+    ensures count { λ r. ⌜ r ≡ filled - at ⌝ }
+    ensures moved { λ r. ⌜ take r (now (buffer .exit)) ≡ take r (drop at (now (buffer .entry))) ⌝ }
 {
     let left = filled - at;
     for i in 0..left {
@@ -77,7 +78,8 @@ fn keep(buffer: &mut [u8], at: usize, filled: usize) -> usize
 // Reads once behind the bytes that are left. A read that fails counts as the end of the input.
 pub(crate) fn refill(buffer: &mut [u8], at: usize, filled: usize) -> Hand
     requires { ⌜ (at ≤ filled) × (filled ≤ length (now buffer)) ⌝ }
-    ensures { λ r. ⌜ (r .at ≤ r .filled) × (r .filled ≤ length (now (buffer .entry))) ⌝ }
+    ensures within { λ r. ⌜ (r .at ≤ r .filled) × (r .filled ≤ length (now (buffer .entry))) ⌝ }
+    ensures kept { λ r. ⌜ take (filled - at) (now (buffer .exit)) ≡ take (filled - at) (drop at (now (buffer .entry))) ⌝ }
 {
     let kept = keep(buffer, at, filled);
     let n = io::count(
