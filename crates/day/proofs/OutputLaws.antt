@@ -2,7 +2,7 @@
 -- Assumes nothing.
 use Prim.Native.Nat.{ℕ, zero, suc, _+_, _-_, _≤_}
 use mathlib.Core.Path.{_≡_, refl, ap, ap₂, sym, _∙_}
-use mathlib.Core.List.{List, [], _∷_, _++_, append-nil}
+use mathlib.Core.List.{List, [], _++_, append-nil}
 use mathlib.Core.Bool.{true, false, cond}
 use mathlib.Core.Logic.{_⊎_, ⊎-elim}
 use native.Mathlib.Omega.{arith}
@@ -16,10 +16,9 @@ use Rattle.records.specs.Records.{recordTotal, stops}
 use Rattle.records.specs.Records.{Outcome as Turned}
 use Rattle.records.proofs.FollowLaws.{goes-some, goes-whole, kind-follows, turn-follows}
 use Rattle.records.proofs.RecordLaws.{turn-stops}
-use Rattle.lines.specs.Lines.{ending, printed}
+use Rattle.lines.specs.Lines.{printed}
 use Rattle.day.specs.Days.{counted, ends, lastLine, lineOf, next, output, outputs, read, stepsIn, turned}
 use Rattle.day.specs.declared.Day.{Day}
-use Rattle.day.proofs.DayLaws.{read-done, read-over}
 
 -- a record after which the run goes on did not end it
 went-on : (d : Day) (bytes : List ℕ) → next d bytes .over ≡ false → stops (d .group) bytes ≡ false

@@ -6,11 +6,11 @@ use mathlib.Core.List.{List, [], _++_, append-assoc}
 use mathlib.Core.Bool.{Bool, true, false}
 use mathlib.Core.Logic.{_⊎_, inl, inr}
 use native.Mathlib.Omega.{arith}
-use borrow.Author.Tests.{eq-eqb, lt-ltb, ltb-false, ne-eqb}
+use borrow.Author.Tests.{eq-eqb, ltb-false, ne-eqb}
 use lib.Dec.{eqb, ltb}
 use lib.ListN.{drop, length, take}
 use lib.Seq.{length-take-le, sets, sets-eq, take-append-add, take-append-seam}
-use Rattle.common.proofs.TestLaws.{or-right, or-true, split}
+use Rattle.common.proofs.TestLaws.{or-right}
 use Rattle.frame.specs.Frames.{kindIn}
 use Rattle.records.specs.Records.{recordTotal, stops}
 use Rattle.records.proofs.FollowLaws.{goes-some, goes-whole}

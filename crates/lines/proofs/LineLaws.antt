@@ -1,6 +1,6 @@
 -- How long a line is, and that a number in decimal says that number.
 -- Assumes nothing.
-use Prim.Native.Nat.{ℕ, zero, suc, _+_, _*_, _-_, _/_, _%_, _<_, _≤_, _^_, min}
+use Prim.Native.Nat.{ℕ, zero, suc, _+_, _*_, _-_, _/_, _<_, _≤_, _^_, min}
 use mathlib.Core.Path.{_≡_, refl}
 use mathlib.Core.List.{List, [], _∷_, _++_}
 use native.Mathlib.Omega.{arith}
@@ -12,7 +12,7 @@ use Rattle.held.specs.Held.{limit}
 use Rattle.records.specs.declared.Did.{Did}
 use Rattle.records.specs.declared.Did.the-variants.{SetUp, Step, Stop}
 use Rattle.lines.specs.Decimal.{decimal, digits, reads}
-use Rattle.lines.specs.Lines.{end, ending, group, lineOf, printed, spaced, stop}
+use Rattle.lines.specs.Lines.{group, lineOf, printed, spaced, stop}
 use Rattle.lines.proofs.DecimalLaws.{length-digits, tenth-less}
 use Rattle.lines.proofs.TextLaws.{length-postings}
 
@@ -30,9 +30,6 @@ printed-short (Step ledger given postings) offset list =
     simp length-append
     (omega (arith, length-digits 20 ledger, length-digits 20 given, length-postings posted, length-take (min postings limit) list))
 printed-short Stop offset list = let h = length-named stop offset (omega arith) in omega arith
-
-pub ending-short : (steps : ℕ) → length (ending steps) ≤ 1024
-ending-short steps = let h = length-named end steps (omega arith) in omega arith
 
 -- what stands behind what was read
 reads-append : (n : ℕ) (xs ys : List ℕ) → reads n (xs ++ ys) ≡ reads (reads n xs) ys

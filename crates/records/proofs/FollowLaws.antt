@@ -1,13 +1,13 @@
 -- A record does the same whatever follows it, and one that goes on is whole.
 -- Assumes nothing.
-use Prim.Native.Nat.{ℕ, _+_, _<_, _≤_}
+use Prim.Native.Nat.{ℕ, _+_, _≤_}
 use mathlib.Core.Path.{_≡_, refl, ap, ap₂, sym, _∙_}
 use mathlib.Core.List.{List, _∷_, _++_}
 use mathlib.Core.Bool.{Bool, true, false, cond, not, _||_}
 use native.Mathlib.Omega.{arith}
 use borrow.Author.Tests.{eqb-false, eqb-true, le-ltb, ltb-false, not-false}
 use lib.Dec.{eqb, ltb}
-use lib.ListN.{drop, getD, length, length-append, length-drop, take, List·getD-append}
+use lib.ListN.{drop, length, length-append, length-drop, take, List·getD-append}
 use lib.Seq.{drop-append-le, take-append-le}
 use Rattle.common.proofs.TestLaws.{or-left, or-right, split}
 use Rattle.frame.specs.Digits.{sum}

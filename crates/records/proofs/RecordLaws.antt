@@ -1,9 +1,9 @@
 -- Laws of the records, one for each way through the definitions.
 -- Assumes nothing.
 use Prim.Native.Nat.{ℕ, zero, suc, _+_, _<_, _≤_}
-use mathlib.Core.Path.{_≡_, refl, ap, ap₂, sym, _∙_}
+use mathlib.Core.Path.{_≡_, refl, ap, sym, _∙_}
 use mathlib.Core.List.{List, [], _∷_}
-use mathlib.Core.Bool.{true, false, cond, not}
+use mathlib.Core.Bool.{true, false, not}
 use native.Mathlib.Omega.{arith}
 use lib.Dec.{eqb, leb}
 use borrow.Author.Tests.{eq-eqb, eqb-false, eqb-true, le-leb, le-ltb, leb-true, lt-leb, lt-ltb, ne-eqb}
@@ -14,8 +14,8 @@ use Rattle.common.specs.Places.{listed}
 use Rattle.common.proofs.PlaceLaws.{last-or-before, listed-places, listed-same}
 use Rattle.common.proofs.TestLaws.{and-left, and-right, or-true, split}
 use Rattle.frame.specs.Digits.{sum}
-use Rattle.frame.specs.Frames.{Row, body, kindIn, known, multicast, propose}
-use Rattle.records.specs.Records.{Outcome, carried, frameIn, lawfulGroup, lawfulTarget, recordTotal, records, secondIn, started, stepped, stopped, stops, turn}
+use Rattle.frame.specs.Frames.{body, kindIn, known, multicast, propose}
+use Rattle.records.specs.Records.{carried, frameIn, lawfulGroup, lawfulTarget, recordTotal, records, secondIn, started, stepped, stopped, stops, turn}
 use Rattle.records.specs.declared.Did.the-variants.{SetUp}
 use Rattle.records.specs.declared.Group.{Group}
 

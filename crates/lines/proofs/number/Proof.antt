@@ -1,10 +1,9 @@
 -- `number` meets its contract: the digits are stored from the lowest on, and stand at the array's end.
 -- Assumes nothing.
 use Prim.Native.Nat.{suc, _≤_, _<_, _-_, _^_}
-use mathlib.Core.Path.{_≡_, ap, sym, _∙_, subst}
+use mathlib.Core.Path.{_≡_, sym, _∙_, subst}
 use mathlib.Core.List.{_++_, append-nil}
 use native.Mathlib.Omega.{arith}
-use denote.Ref.{now}
 use lib.ListN.{length, drop, length-drop, length-set, length-take}
 use lib.Seq.{take-all}
 use Rattle.lines.specs.Decimal.{decimal, digits}

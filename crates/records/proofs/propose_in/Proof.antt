@@ -1,4 +1,4 @@
-use mathlib.Core.Path.{ap, sym, _∙_}
+use mathlib.Core.Path.{ap, sym}
 use mathlib.Core.List.{_∷_}
 use native.Mathlib.Omega.{arith}
 use denote.Ref.{now}

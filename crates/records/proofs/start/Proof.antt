@@ -1,14 +1,13 @@
 use Prim.Native.Nat.{ℕ, suc, _≤_, _<_, _-_}
-use mathlib.Core.Path.{_≡_, ap, sym, _∙_}
+use mathlib.Core.Path.{_≡_, ap, _∙_}
 use native.Mathlib.Omega.{arith}
 use native.Mathlib.Numerals.{add-one}
-use lib.ListN.{length, getD, length-set, length-replicate}
+use lib.ListN.{length, getD, length-set}
 use Rattle.ledger.specs.State.{fresh, setUp}
 use mathlib.Core.List.{List}
 use Rattle.ledger.specs.declared.Ledger.{Ledger}
 use Rattle.ledger.specs.declared.SetUp.{SetUp}
 use Rattle.records.specs.Records.{started}
-use Rattle.records.specs.declared.Group.{Group}
 use Rattle.records.proofs.RecordLaws.{place-more, places-all}
 use borrow.Author.Needs.{needs}
 use Rattle.records.proofs.start.Statement.{statement}

@@ -1,12 +1,13 @@
-use Prim.Native.Nat.{_≤_}
+use Prim.Native.Nat.{ℕ, _≤_}
 use mathlib.Core.Path.{_≡_, ap, sym, _∙_}
 use mathlib.Core.Bool.{not}
+use mathlib.Core.List.{List}
 use native.Mathlib.Omega.{arith}
 use denote.Ref.{now}
 use lib.ListN.{length}
 use Rattle.frame.specs.Digits.{sum}
 use Rattle.frame.specs.Frames.{body, kindIn, known}
-use Rattle.records.specs.Records.{outcome, recordTotal, secondIn, stepped}
+use Rattle.records.specs.Records.{frameIn, outcome, recordTotal, secondIn, stepped, turn}
 use Rattle.records.specs.declared.Did.the-variants.{SetUp}
 use Rattle.records.proofs.RecordLaws.{frame-multicast, frame-propose, stops-empty, stops-set-up, stops-short, stops-step, stops-unknown, total-propose, total-second, turn-starts, turn-steps, turn-stops}
 use borrow.Author.Needs.{needs}
@@ -68,15 +69,23 @@ multicast-in-requires c κs =
 step-requires : tie.Need-step-requires
 step-requires c κs = sym (c .before .before .before .before .before .has .ensures) ∙ c .before .before .before .before .if6 .taken
 
-returns-6 : tie.Need-returns-6
-returns-6 c =
-    let other = c .before .before .before .before .before .before .before .before .before in
+-- a step record with a lawful target hands its frame to that ledger
+steps : (c : tie.Then6) (frame : List ℕ) → frameIn (now (c .before .before .before .before .before .before .before .before .before .before .before .args .bytes)) ≡ frame
+    → stepped (c .before .before .before .before .before .before .before .before .before .before .before .args .self) (secondIn (now (c .before .before .before .before .before .before .before .before .before .before .before .args .bytes))) frame (now (c .before .before .before .before .before .before .before .before .before .before .before .args .postings))
+    ≡ turn (c .before .before .before .before .before .before .before .before .before .before .before .args .self) (now (c .before .before .before .before .before .before .before .before .before .before .before .args .bytes)) (now (c .before .before .before .before .before .before .before .before .before .before .before .args .postings))
+steps c frame is =
+    let other = c .before .before in
     let here = other .before in
     let a = here .before .before .before .before .before .before .before .before .args in
-    let lawful = sym (c .before .before .before .before .before .before .before .before .has .ensures) ∙ c .before .before .before .before .before .before .before .if6 .taken in
+    let lawful = sym (c .before .has .ensures) ∙ c .if6 .taken in
+    sym (turn-steps (a .self) (now (a .bytes)) (now (a .postings)) frame (stops-step (a .self) (now (a .bytes)) (some here) (whole here) (other .if4 .left) ∙ ap not lawful) (other .if4 .left) is)
+
+returns-6 : tie.Need-returns-6
+returns-6 c =
+    let a = c .before .before .before .before .before .before .before .before .before .before .before .before .before .before .before .before .before .before .args in
     c .before .before .step .ensures
     ∙ ap (λ f. stepped (a .self) (secondIn (now (a .bytes))) f (now (a .postings))) (c .before .before .before .before .before .multicast-in .ensures)
-    ∙ sym (turn-steps (a .self) (now (a .bytes)) (now (a .postings)) _ (stops-step (a .self) (now (a .bytes)) (some here) (whole here) (other .if4 .left) ∙ ap not lawful) (other .if4 .left) (frame-multicast (now (a .bytes)) (c .before .before .before .before .before .before .if7 .taken)))
+    ∙ steps (c .before .before .before .before .before .before .before) _ (frame-multicast (now (a .bytes)) (c .before .before .before .before .before .before .if7 .taken))
 
 propose-in-requires : tie.Need-propose-in-requires
 propose-in-requires c κs =
@@ -89,13 +98,10 @@ step-requires-2 c κs = sym (c .before .before .before .before .before .has .ens
 
 returns-7 : tie.Need-returns-7
 returns-7 c =
-    let other = c .before .before .before .before .before .before .before .before .before in
-    let here = other .before in
-    let a = here .before .before .before .before .before .before .before .before .args in
-    let lawful = sym (c .before .before .before .before .before .before .before .before .has .ensures) ∙ c .before .before .before .before .before .before .before .if6 .taken in
+    let a = c .before .before .before .before .before .before .before .before .before .before .before .before .before .before .before .before .before .before .args in
     c .before .before .step2 .ensures
     ∙ ap (λ f. stepped (a .self) (secondIn (now (a .bytes))) f (now (a .postings))) (c .before .before .before .before .before .propose-in .ensures)
-    ∙ sym (turn-steps (a .self) (now (a .bytes)) (now (a .postings)) _ (stops-step (a .self) (now (a .bytes)) (some here) (whole here) (other .if4 .left) ∙ ap not lawful) (other .if4 .left) (frame-propose (now (a .bytes)) (c .before .before .before .before .before .before .if7 .left)))
+    ∙ steps (c .before .before .before .before .before .before .before) _ (frame-propose (now (a .bytes)) (c .before .before .before .before .before .before .if7 .left))
 
 returns-8 : tie.Need-returns-8
 returns-8 c =
