@@ -17,7 +17,7 @@ use Rattle.records.specs.Records.{Outcome as Turned}
 use Rattle.records.proofs.FollowLaws.{goes-some, goes-whole, kind-follows, turn-follows}
 use Rattle.records.proofs.RecordLaws.{turn-stops}
 use Rattle.lines.specs.Lines.{printed}
-use Rattle.day.specs.Days.{counted, ends, lastLine, lineOf, next, output, outputs, read, stepsIn, turned}
+use Rattle.day.specs.Days.{counted, ends, lastLine, lineFor, next, output, outputs, read, stepsIn, turned}
 use Rattle.day.specs.declared.Day.{Day}
 
 -- a record after which the run goes on did not end it
@@ -39,7 +39,7 @@ outputs-empty zero d bytes e = refl
 outputs-empty (suc k) d bytes e = simp (eq-eqb _ _ e, or-true)
 
 outputs-more : (k : ℕ) (d : Day) (bytes : List ℕ) → d .over ≡ false → (length bytes ≡ 0 → ⊥)
-    → outputs (suc k) d bytes ≡ lineOf d bytes ++ outputs k (next d bytes) (drop (recordTotal (kindIn bytes)) bytes)
+    → outputs (suc k) d bytes ≡ lineFor d bytes ++ outputs k (next d bytes) (drop (recordTotal (kindIn bytes)) bytes)
 unfolding outputs
 outputs-more k d bytes e n = simp (e, ne-eqb _ _ n)
 
@@ -59,7 +59,7 @@ enough (suc j) (suc k) d bytes a b =
     (λ z. let some = eqb-false (length bytes) 0 z in
     let rest = drop (recordTotal (kindIn bytes)) bytes in
     outputs-more j d bytes f some
-    ∙ ap (λ (l : List ℕ). lineOf d bytes ++ l)
+    ∙ ap (λ (l : List ℕ). lineFor d bytes ++ l)
     (split (next d bytes .over)
     (λ t. outputs-over j (next d bytes) rest t ∙ sym (outputs-over k (next d bytes) rest t))
     (λ g. let two = goes-some (d .group) bytes (went-on d bytes g) in
@@ -69,7 +69,7 @@ enough (suc j) (suc k) d bytes a b =
 
 -- the text and the day that reading a record leaves; a run that is over stays as it is
 abbrev pub text : Day → List ℕ → List ℕ
-text d bytes = cond (d .over) [] (lineOf d bytes)
+text d bytes = cond (d .over) [] (lineFor d bytes)
 
 abbrev pub after : Day → List ℕ → Day
 after d bytes = cond (d .over) d (next d bytes)
@@ -128,5 +128,5 @@ module _ (d : Day) (bytes more : List ℕ) (some : 1 ≤ length bytes) (ready : 
       enough (length (bytes ++ more)) (suc k) d (bytes ++ more) (omega arith) (omega arith)
       ∙ outputs-more k d (bytes ++ more) f (λ z. omega arith)
       ∙ ap₂ (λ (o : Turned) (e : Day). printed (o .did) (d .offset) (o .list) ++ outputs k e (drop (recordTotal (kindIn (bytes ++ more))) (bytes ++ more))) same-turned same-next
-      ∙ ap (λ (l : List ℕ). lineOf d bytes ++ l) (rest-same n k size (omega arith))
+      ∙ ap (λ (l : List ℕ). lineFor d bytes ++ l) (rest-same n k size (omega arith))
       ∙ sym (simp f refl))

@@ -51,8 +51,8 @@ abbrev pub turned : Day → List ℕ → Turned
 turned d bytes = turn (d .group) bytes (replicate limit 0)
 
 -- the line that is printed of it
-abbrev pub lineOf : Day → List ℕ → List ℕ
-lineOf d bytes = printed (turned d bytes .did) (d .offset) (turned d bytes .list)
+abbrev pub lineFor : Day → List ℕ → List ℕ
+lineFor d bytes = printed (turned d bytes .did) (d .offset) (turned d bytes .list)
 
 -- the day after it; the next record begins after its bytes
 abbrev pub next : Day → List ℕ → Day
@@ -67,7 +67,7 @@ next d bytes =
 -- the line is written to a buffer
 abbrev pub done : Day → List ℕ → List ℕ → Outcome
 done d bytes buffer =
-    record { day = next d bytes; written = length (lineOf d bytes); buffer = sets buffer 0 (lineOf d bytes) }
+    record { day = next d bytes; written = length (lineFor d bytes); buffer = sets buffer 0 (lineFor d bytes) }
 
 -- what the record at the start of bytes leaves; a run that has ended stays as it is and prints no more
 unfoldable pub read : Day → List ℕ → List ℕ → Outcome
@@ -87,7 +87,7 @@ outputs zero d bytes = lastLine d
 outputs (suc k) d bytes =
     cond (d .over || eqb (length bytes) 0)
     (lastLine d)
-    (lineOf d bytes ++ outputs k (next d bytes) (drop (recordTotal (kindIn bytes)) bytes))
+    (lineFor d bytes ++ outputs k (next d bytes) (drop (recordTotal (kindIn bytes)) bytes))
 
 -- there are not more records than bytes
 abbrev pub output : Day → List ℕ → List ℕ

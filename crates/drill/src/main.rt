@@ -1,7 +1,6 @@
 // The drill: reads records from standard input, does each to its ledgers, and prints what came of it.
 mod bytes;
 
-use bytes::Hand;
 use day::Day;
 use libc::STDOUT_FILENO;
 ghost use Prim.Native.Nat.{_≤_};

@@ -19,10 +19,10 @@ fn put(out: &mut [u8], at: usize, byte: u8) -> usize
     requires { ⌜ at ≤ 4096 ⌝ }
     ensures { λ r. ⌜ Stands (now (out .entry)) at (byte ∷ []) (now (out .exit)) r ⌝ }
 {
-    if at < out.len() {
-        out[at] = byte;
+    if out.len() <= at {
         return at + 1;
     }
+    out[at] = byte;
     at + 1
 }
 

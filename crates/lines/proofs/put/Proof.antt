@@ -4,16 +4,16 @@ use borrow.Author.Needs.{needs}
 use Rattle.lines.proofs.put.Statement.{statement}
 use Rattle.lines.proofs.put.Tie as tie
 
-returns-2 : tie.Need-returns-2
-returns-2 c = dropped (now (c .before .args .out)) (c .before .args .at) (c .before .args .byte) (c .if1 .left)
+returns : tie.Need-returns
+returns c = dropped (now (c .before .args .out)) (c .before .args .at) (c .before .args .byte) (c .if1 .taken)
 
 pub put-spec : {M : Type 1} → statement M
 put-spec =
     tie.close
     (tie.spec
     (λ c. search needs)
+    returns
     (λ c. search needs)
     (λ c. search needs)
     (λ c. search needs)
-    (λ c. search needs)
-    returns-2)
+    (λ c. search needs))
