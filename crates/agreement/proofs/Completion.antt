@@ -24,7 +24,7 @@ use Rattle.agreement.proofs.Agreed.{no-copy}
 use Rattle.agreement.proofs.Copies.{from-ledger, in-byte}
 use Rattle.agreement.proofs.Entries.{in-group}
 use Rattle.agreement.proofs.Invariant.{kept}
-use Rattle.agreement.proofs.Lists.{in-append, in-left, in-right}
+use Rattle.common.proofs.MemberLaws.{in-append, in-left, in-right}
 use Rattle.agreement.proofs.Written.{copies-from, copies-kept}
 use Rattle.payment.proofs.OtherLaws.{other-destination, without-byte}
 

@@ -6,20 +6,9 @@ use mathlib.Core.List.{List, [], _∷_, _++_, map}
 use mathlib.Core.Bool.{Bool, true}
 use mathlib.Core.Logic.{_⊎_, inl, inr, ⊎-elim}
 use Rattle.common.specs.Places.{In}
+use Rattle.common.proofs.MemberLaws.{in-append}
 use Rattle.soundness.proofs.Rising.{Rising, all-has}
 use Rattle.agreement.specs.Claims.{Precedes}
-
-pub in-append : {A : Type 0} (x : A) (xs ys : List A) → In x (xs ++ ys) → In x xs ⊎ In x ys
-in-append x [] ys h = inr h
-in-append x (z ∷ zs) ys h = ⊎-elim (λ e. inl (inl e)) (λ t. ⊎-elim (λ a. inl (inr a)) (λ b. inr b) (in-append x zs ys t)) h
-
-pub in-left : {A : Type 0} (x : A) (xs ys : List A) → In x xs → In x (xs ++ ys)
-in-left x [] ys h = absurd h
-in-left x (z ∷ zs) ys h = ⊎-elim (λ e. inl e) (λ t. inr (in-left x zs ys t)) h
-
-pub in-right : {A : Type 0} (x : A) (xs ys : List A) → In x ys → In x (xs ++ ys)
-in-right x [] ys h = h
-in-right x (z ∷ zs) ys h = inr (in-right x zs ys h)
 
 pub precedes-append : (x y : ℕ) (xs ys : List ℕ) → Precedes x y (xs ++ ys) → Precedes x y xs ⊎ ((In x xs × In y ys) ⊎ Precedes x y ys)
 precedes-append x y [] ys h = inr (inr h)

@@ -31,7 +31,8 @@ use Rattle.soundness.proofs.Rising.{all-has}
 use Rattle.soundness.proofs.Taking.{place-others}
 use Rattle.agreement.specs.Claims.{Earlier, Holds, Precedes, HasStamp, WithStamp}
 use Rattle.agreement.proofs.View.{posted-place}
-use Rattle.agreement.proofs.Lists.{in-append, in-left, in-map, in-right, map-in, precedes-append, precedes-in, precedes-map, rising-precedes}
+use Rattle.agreement.proofs.Lists.{in-map, map-in, precedes-append, precedes-in, precedes-map, rising-precedes}
+use Rattle.common.proofs.MemberLaws.{in-append, in-left, in-right}
 use Rattle.agreement.proofs.Phases.{others-stay, same-count, stamp-stays, still-used, unposted-now, unstamped-before}
 
 abbrev pub Posted : Payment → Type 0

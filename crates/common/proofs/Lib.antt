@@ -6,3 +6,4 @@ pub mod PlaceLaws
 pub mod OrderLaws
 pub mod ByteLaws
 pub mod CountLaws
+pub mod MemberLaws

@@ -1,15 +1,14 @@
 -- Document 01, "The drill": where a run over the records stands, and what it prints next.
 -- Assumes nothing.
+use Rattle.records.specs.Records.{Outcome as Turned}
 use Prim.Native.Nat.{ℕ, zero, suc, _+_, _%_, _^_}
 use mathlib.Core.List.{List, [], _++_}
 use mathlib.Core.Bool.{Bool, true, false, cond, _||_}
 use lib.Dec.{eqb}
 use lib.ListN.{drop, length, replicate}
-use lib.Seq.{sets}
 use Rattle.frame.specs.Frames.{kindIn}
 use Rattle.held.specs.Held.{limit}
 use Rattle.records.specs.Records.{noGroup, recordTotal, turn}
-use Rattle.records.specs.Records.{Outcome as Turned}
 use Rattle.records.specs.declared.Did.{Did}
 use Rattle.records.specs.declared.Did.the-variants.{SetUp, Step, Stop}
 use Rattle.lines.specs.Lines.{Wrote, ending, printed, writing}
@@ -54,7 +53,7 @@ turned d bytes = turn (d .group) bytes (replicate limit 0)
 abbrev pub lineFor : Day → List ℕ → List ℕ
 lineFor d bytes = printed (turned d bytes .did) (d .offset) (turned d bytes .list)
 
--- the day after it; the next record begins after its bytes
+-- the day after it; the next record begins after its bytes (after a stop none is read)
 abbrev pub next : Day → List ℕ → Day
 next d bytes =
     record {
@@ -67,7 +66,8 @@ next d bytes =
 -- the line is written to a buffer
 abbrev pub done : Day → List ℕ → List ℕ → Outcome
 done d bytes buffer =
-    record { day = next d bytes; written = length (lineFor d bytes); buffer = sets buffer 0 (lineFor d bytes) }
+    let line = writing (lineFor d bytes) buffer in
+    record { day = next d bytes; written = line .length; buffer = line .buffer }
 
 -- what the record at the start of bytes leaves; a run that has ended stays as it is and prints no more
 unfoldable pub read : Day → List ℕ → List ℕ → Outcome

@@ -52,8 +52,11 @@ body [] k = []
 body (r ∷ rs) k = cond (eqb k (r .kind)) (r .body) (body rs k)
 
 -- the total length of a frame of a known kind: one byte of kind, then a body whose length the kind fixes
+abbrev pub totalIn : List Row → ℕ → ℕ
+totalIn rows k = 1 + sum (body rows k)
+
 abbrev pub total : ℕ → ℕ
-total k = 1 + sum (body table k)
+total k = totalIn table k
 
 -- the bytes of a frame, high byte first
 abbrev pub frameBytes : Values → List ℕ

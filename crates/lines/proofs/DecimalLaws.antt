@@ -1,14 +1,17 @@
 -- Laws of decimal digits.
 -- Assumes nothing.
 use Prim.Native.Nat.{ℕ, zero, suc, _+_, _/_, _%_, _<_, _≤_, _^_}
-use mathlib.Core.Path.{_≡_, ap, ap₂, sym, _∙_}
+use mathlib.Core.Path.{_≡_, ap, ap₂, sym, _∙_, subst}
 use mathlib.Core.List.{List, [], _∷_, _++_}
 use native.Mathlib.Nat.{pow-suc}
 use native.Mathlib.Omega.{arith}
-use borrow.Author.Tests.{le-ltb, lt-ltb}
+use borrow.Author.Tests.{le-ltb, lt-ltb, ltb-false, ltb-true}
 use lib.Dec.{ltb}
 use lib.ListN.{length, drop, length-append, length-set, set}
 use lib.Seq.{append-snoc, drop-cons, drop-set-lt, getD-set-same}
+use mathlib.Core.Logic.{⊎-elim}
+use Rattle.common.specs.Places.{In}
+use Rattle.common.proofs.MemberLaws.{in-append}
 use Rattle.common.proofs.TestLaws.{split}
 use Rattle.lines.specs.Decimal.{digit, digits}
 
@@ -59,3 +62,17 @@ two-places (suc (suc i)) rest h more = omega arith
 
 pub tenth-less : (j rest : ℕ) → rest < 10 ^ suc j → rest / 10 < 10 ^ j
 tenth-less j rest h = let e = pow-suc 10 j in omega arith
+
+-- every byte is a digit, `0` to `9`
+pub digits-are : (k n b : ℕ) → In b (digits k n) → (48 ≤ b) × (b ≤ 57)
+unfolding digits
+digits-are zero n b i = absurd i
+digits-are (suc k) n b i =
+    split (ltb n 10)
+    (λ t. let less = ltb-true _ _ t in
+    ⊎-elim (λ e. (omega (arith, e, less), omega (arith, e, less))) (λ z. absurd z) (subst (In b) (digits-one k n less) i))
+    (λ t. let more = ltb-false _ _ t in
+    ⊎-elim
+    (λ h. digits-are k (n / 10) b h)
+    (λ h. ⊎-elim (λ e. (omega (arith, e), omega (arith, e))) (λ z. absurd z) h)
+    (in-append b (digits k (n / 10)) (digit (n % 10) ∷ []) (subst (In b) (digits-more k n more) i)))

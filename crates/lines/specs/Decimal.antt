@@ -18,7 +18,7 @@ digits (suc k) n = cond (ltb n 10) (digit n ∷ []) (digits k (n / 10) ++ (digit
 abbrev pub decimal : ℕ → List ℕ
 decimal n = digits 20 n
 
--- for the theorems: the number that digits say, read behind a number
+-- for the theorems: the number that digits say, where those before them said n
 unfoldable pub reads : ℕ → List ℕ → ℕ
 reads n [] = n
 reads n (b ∷ bs) = reads (n * 10 + (b - 48)) bs

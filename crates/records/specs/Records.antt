@@ -1,13 +1,14 @@
 -- Document 01, "The drill": the records, and what each does to the ledgers.
 -- Assumes nothing.
-use Prim.Native.Nat.{ℕ, suc, _+_, _-_}
+use Prim.Native.Nat.{ℕ, suc, _-_}
 use mathlib.Core.List.{List, [], _∷_}
 use mathlib.Core.Bool.{Bool, not, _&&_, _||_, cond}
 use lib.ListN.{length, getD, take, drop, set, replicate}
 use lib.Dec.{eqb, leb, ltb}
 use Rattle.common.specs.Places.{listed}
 use Rattle.frame.specs.Digits.{sum}
-use Rattle.frame.specs.Frames.{Row, body, kindIn, known, multicast, propose}
+use Rattle.frame.specs.Frames.{Row, kindIn, known, multicast, propose, totalIn}
+use Rattle.payment.specs.Ledgers.{mostLedgers}
 use Rattle.ledger.specs.State.{fresh, setUp}
 use Rattle.ledger.specs.Step.{step}
 use Rattle.ledger.specs.declared.Ledger.{Ledger}
@@ -33,21 +34,21 @@ records = setUpRecord ∷ multicastRecord ∷ proposeRecord ∷ []
 
 -- how many bytes a record of a kind has; 0 where the kind is unknown
 unfoldable pub recordTotal : ℕ → ℕ
-recordTotal kind = cond (known records kind) (1 + sum (body records kind)) 0
+recordTotal kind = cond (known records kind) (totalIn records kind) 0
 
 -- the byte after the kind: N, or the target ledger
 abbrev pub secondIn : List ℕ → ℕ
 secondIn bytes = getD bytes 1 0
 
--- N is from 1 to 8
+-- N from 1 to 8
 abbrev pub lawfulGroup : ℕ → Bool
-lawfulGroup n = leb 1 n && leb n 8
+lawfulGroup n = leb 1 n && leb n mostLedgers
 
 -- a target is from 1 to N; a group whose N is not from 1 to 8 has none: N is 0 before any set-up
 abbrev pub lawfulTarget : Group → ℕ → Bool
 lawfulTarget g target = lawfulGroup (g .count) && (leb 1 target && leb target (g .count))
 
--- a record with an unknown kind, cut short, a step before any set-up, or with bad N or target (outside 1 to N) ends the run
+-- a record with an unknown kind, cut short (no byte at all is cut before its kind; the program asks only where there is one), a step before any set-up, or with bad N or target (outside 1 to N) ends the run
 unfoldable pub stops : Group → List ℕ → Bool
 stops g bytes =
     not (known records (kindIn bytes))
@@ -56,16 +57,17 @@ stops g bytes =
 
 -- N ledgers afresh; a place beyond N, whose set-up is refused, is all zero
 unfoldable pub started : ℕ → Group
-started n = record { count = n; ledgers = listed 8 (λ i. setUp n (suc i) .state) }
+started n = record { count = n; ledgers = listed mostLedgers (λ i. setUp n (suc i) .state) }
 
 -- before any set-up
 abbrev pub noGroup : Group
-noGroup = record { count = 0; ledgers = replicate 8 (fresh 0 0) }
+noGroup = record { count = 0; ledgers = replicate mostLedgers (fresh 0 0) }
 
 -- the frame of a step record: the frame's own kind, and the body bytes after the target
 abbrev pub carried : Row → List ℕ → List ℕ
 carried row bytes = row .kind ∷ take (sum (row .body)) (drop 2 bytes)
 
+-- the frame of a record of kind 17, or else of kind 18
 unfoldable pub frameIn : List ℕ → List ℕ
 frameIn bytes = cond (eqb (kindIn bytes) (multicastRecord .kind)) (carried multicast bytes) (carried propose bytes)
 
@@ -75,7 +77,7 @@ ledgerOf g target =
     getD (g .ledgers) (target - 1)
     (record { group = 0; own = record { 0 = 0 }; clock = record { 0 = 0 }; count = 0; payments = [] })
 
--- what a record does: the group after it, what is printed of it, and the whole posting list
+-- what a record leaves: the group after it, what was done, and the whole posting list
 pub record Outcome : Type 0 where
   pub group : Group
   pub did : Did

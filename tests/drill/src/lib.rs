@@ -6,6 +6,9 @@ use std::io::Write;
 use std::path::{Path, PathBuf};
 use std::process::{Child, Command, Output, Stdio};
 use std::thread;
+use std::time::Duration;
+
+const PAUSE: Duration = Duration::from_micros(300);
 
 fn home() -> &'static Path {
     Path::new(env!("CARGO_MANIFEST_DIR"))
@@ -44,6 +47,8 @@ pub fn run(pieces: Vec<Vec<u8>>) -> Output {
             if input.write_all(&piece).is_err() {
                 return;
             }
+            // Else the pipe may hand two pieces over as one.
+            thread::sleep(PAUSE);
         }
     });
     let output = child.wait_with_output().unwrap();

@@ -1,0 +1,17 @@
+-- Members of a list.
+-- Assumes nothing.
+use mathlib.Core.List.{List, [], _∷_, _++_}
+use mathlib.Core.Logic.{_⊎_, inl, inr, ⊎-elim}
+use Rattle.common.specs.Places.{In}
+
+pub in-append : {A : Type 0} (x : A) (xs ys : List A) → In x (xs ++ ys) → In x xs ⊎ In x ys
+in-append x [] ys h = inr h
+in-append x (z ∷ zs) ys h = ⊎-elim (λ e. inl (inl e)) (λ t. ⊎-elim (λ a. inl (inr a)) (λ b. inr b) (in-append x zs ys t)) h
+
+pub in-left : {A : Type 0} (x : A) (xs ys : List A) → In x xs → In x (xs ++ ys)
+in-left x [] ys h = absurd h
+in-left x (z ∷ zs) ys h = ⊎-elim (λ e. inl e) (λ t. inr (in-left x zs ys t)) h
+
+pub in-right : {A : Type 0} (x : A) (xs ys : List A) → In x ys → In x (xs ++ ys)
+in-right x [] ys h = h
+in-right x (z ∷ zs) ys h = inr (in-right x zs ys h)
