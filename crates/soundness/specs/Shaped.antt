@@ -1,4 +1,4 @@
--- What the types say of every ledger that a program can hold.
+-- Of what the types say of a ledger, what the proofs need: every ledger that a program can hold has it.
 -- Assumes nothing.
 use Prim.Native.Nat.{ℕ, _<_}
 use mathlib.Core.Path.{_≡_}
