@@ -28,7 +28,7 @@ impl Program {
         if !path.is_file() {
             return Err(format!("there is no program at {}", path.display()));
         }
-        let limit = Duration::from_secs(20);
+        let limit = Duration::from_secs(120);
         Ok(Program { path, limit })
     }
 
