@@ -51,10 +51,11 @@ unfoldable pub body : List Row → ℕ → List ℕ
 body [] k = []
 body (r ∷ rs) k = cond (eqb k (r .kind)) (r .body) (body rs k)
 
--- the total length of a frame of a known kind: one byte of kind, then a body whose length the kind fixes
+-- one byte of kind, then a body whose length the kind fixes
 abbrev pub totalIn : List Row → ℕ → ℕ
 totalIn rows k = 1 + sum (body rows k)
 
+-- the total length of a frame of a known kind
 abbrev pub total : ℕ → ℕ
 total k = totalIn table k
 

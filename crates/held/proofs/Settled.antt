@@ -2,18 +2,13 @@
 -- `r ≡ ..` outright, which `common/Settled.one-outcome` settles as it stands.
 -- Assumes nothing.
 use Prim.Native.Nat.{ℕ}
-use mathlib.Core.Path.{_≡_, ap}
+use mathlib.Core.Path.{_≡_}
 use mathlib.Core.List.{List}
-use Rattle.common.proofs.Settled.{one-outcome}
+use Rattle.common.proofs.Settled.{told-apart}
 use Rattle.payment.specs.declared.Payment.{Payment}
 use Rattle.held.specs.Posting.{Posting, left, posting}
 use Rattle.held.specs.declared.Posted.{Posted}
 
 pub post-settled : (payments : List Payment) (own : ℕ) (list : List ℕ) (r s : Posted) (b c : List ℕ)
     → left r b ≡ posting payments own list → left s c ≡ posting payments own list → (r ≡ s) × (b ≡ c)
-post-settled payments own list r s b c p q =
-    let same = one-outcome p q in
-    (ap back same, ap (λ o. o .list) same)
-  where
-    back : Posting → Posted
-    back o = record { payments = o .payments; count = o .count }
+post-settled payments own list r s b c = told-apart {A = Posting} (λ o. record { payments = o .payments; count = o .count }) (λ o. o .list)

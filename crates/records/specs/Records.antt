@@ -48,7 +48,8 @@ lawfulGroup n = leb 1 n && leb n mostLedgers
 abbrev pub lawfulTarget : Group → ℕ → Bool
 lawfulTarget g target = lawfulGroup (g .count) && (leb 1 target && leb target (g .count))
 
--- a record with an unknown kind, cut short (no byte at all is cut before its kind; the program asks only where there is one), a step before any set-up, or with bad N or target (outside 1 to N) ends the run
+-- a record with an unknown kind, cut short, a step before any set-up, or with bad N or target (outside 1 to N) ends the run (no byte
+-- at all is a record cut before its kind; the program asks only where there is a byte)
 unfoldable pub stops : Group → List ℕ → Bool
 stops g bytes =
     not (known records (kindIn bytes))
