@@ -8,12 +8,12 @@ use mathlib.Core.Logic.{_⊎_, inl, inr, ⊎-elim}
 use native.Mathlib.Omega.{arith}
 use borrow.Author.Tests.{le-leb}
 use Rattle.common.proofs.TestLaws.{and-both}
-use Rattle.payment.specs.Ledgers.{mostLedgers, without}
+use Rattle.ledgers.specs.Ledgers.{isLedgerOf, mostLedgers, without}
 use Rattle.payment.specs.Payments.{lastTime}
 use Rattle.payment.specs.declared.Payment.{Payment}
-use Rattle.ledger.specs.State.{fresh, lawfulSetUp, setUp}
+use Rattle.ledger.specs.State.{fresh, setUp}
 use Rattle.ledger.specs.Step.{recipientsOf, sent, taken}
-use Rattle.ledger.specs.declared.Incoming.{Incoming}
+use Rattle.refusals.specs.declared.Incoming.{Incoming}
 use Rattle.ledger.specs.declared.Ledger.{Ledger}
 use Rattle.ledger.specs.declared.SetUp.{SetUp}
 use Rattle.soundness.proofs.Fresh.{fresh-shaped, fresh-sound}
@@ -25,7 +25,7 @@ use Rattle.agreement.proofs.Hearing.{Heard, HeardTime, has-from, heard-
 use Rattle.agreement.proofs.Calls.{Well, answer, by-call, frameOf, heard-stays, view, well-stays}
 use Rattle.agreement.proofs.Written.{copies-from, copies-kept, copies-new, copy-is, newCopy, taken-call}
 use Rattle.agreement.proofs.Copies.{FromDesk, FromLedger, Sent, copyOf, from-desk, from-ledger, in-byte}
-use Rattle.payment.proofs.OtherLaws.{other-destination}
+use Rattle.ledgers.proofs.OtherLaws.{other-destination}
 
 -- its destinations are d
 abbrev pub Goes : ℕ → Payment → Type 0
@@ -43,7 +43,8 @@ pub record Agrees (n : ℕ) (table : List Entry) (w : World) : Type 0 where
   -- a copy holds its writer's own time
   pub copied : (x : Written) → In x (w .written) → Sent n table w x
   -- an own time is on record for the other destinations
-  pub sent : (q m d t : ℕ) → 1 ≤ q → q ≤ n → Heard (w .ledgers q) m d q t → (without d q ≡ 0 → ⊥) → In (copyOf (entryOf m d) q t) (w .written)
+  pub sent : (q m d t : ℕ) → 1 ≤ q → q ≤ n → Heard (w .ledgers q) m d q t → (without d q ≡ 0 → ⊥)
+      → In (copyOf (entryOf m d) q t) (w .written)
 
 module _ (n : ℕ) (table : List Entry) (law : Lawful n table) (w : World) (c : Call) (may : May n table w c) (a : Agrees n table w) where
   here : Well n (c .to) (w .ledgers (c .to))
@@ -73,7 +74,8 @@ module _ (n : ℕ) (table : List Entry) (law : Lawful n table) (w : World) (c : 
       subst (λ j. Heard (next j) m d q t) (ek ∙ sym (here .own) ∙ sym eq) h))
       (λ o. subst Says (sym (o .frame)) (λ k ek q eq t et m em d ed h.
       let s = o .sent in
-      let there = stays (s .writer) (s .entry .number) (s .entry .destinations) (s .writer) (s .time) (s .from .0) (s .from .1) (s .heard) in
+      let there = stays (s .writer) (s .entry .number) (s .entry .destinations) (s .writer) (s .time) (s .from .0) (s .from .1)
+      (s .heard) in
       subst (λ j. Heard (next j) m d j t) (sym eq)
       (subst (λ x. Heard (next (s .writer)) m d (s .writer) x) (sym et)
       (subst (λ x. Heard (next (s .writer)) m x (s .writer) (s .time)) (sym ed)
@@ -104,7 +106,8 @@ module _ (n : ℕ) (table : List Entry) (law : Lawful n table) (w : World) (c : 
       (λ e t v h. has-from (w .ledgers (c .to)) (frameOf c) (t .is-sound) (here .shape) (t .unrefused) (next (c .to)) v
       (Goes d) (λ p q s g. s .destinations ∙ g) (In (entryOf m d) table) m h
       (a .listed (c .to) m d (may .ledger .0) (may .ledger .1))
-      (λ em g. subst (λ x. In (entryOf m x) table) (sym (heard-goes (w .ledgers (c .to)) (frameOf c) (t .is-sound) (here .shape) (t .unrefused)) ∙ g)
+      (λ em g. subst (λ x. In (entryOf m x) table) (sym (heard-goes (w .ledgers (c .to)) (frameOf c) (t .is-sound) (here .shape)
+      (t .unrefused)) ∙ g)
       (subst (λ x. In (entryOf x (frameOf c .destinations)) table) (sym em) of-table)))
 
   -- a PROPOSE that is handed in makes no copy
@@ -126,10 +129,12 @@ module _ (n : ℕ) (table : List Entry) (law : Lawful n table) (w : World) (c : 
       }
 
   -- the own time that a taken MULTICAST gives
-  own-heard : (o : FromDesk table c) → taken-call w c → Heard (next (c .to)) (o .entry .number) (o .entry .destinations) (c .to) (w .ledgers (c .to) .clock .0 + 1)
+  own-heard : (o : FromDesk table c) → taken-call w c → Heard (next (c .to)) (o .entry .number) (o .entry .destinations) (c .to)
+      (w .ledgers (c .to) .clock .0 + 1)
   own-heard o t =
       subst (λ k. Heard (next (c .to)) (o .entry .number) (o .entry .destinations) k (w .ledgers (c .to) .clock .0 + 1)) (here .own)
-      (subst (λ f. Heard (next (c .to)) (f .payment .0) (f .destinations) (speaker (w .ledgers (c .to)) f) (spokenTime (w .ledgers (c .to)) f)) (o .frame)
+      (subst (λ f. Heard (next (c .to)) (f .payment .0) (f .destinations) (speaker (w .ledgers (c .to)) f)
+      (spokenTime (w .ledgers (c .to)) f)) (o .frame)
       (heard-now (w .ledgers (c .to)) (frameOf c) (t .is-sound) (here .shape) (t .unrefused) (next (c .to)) (view w c t (here .shape))))
 
   new-sent : (o : FromDesk table c) → taken-call w c → (newCopy w c .recipients ≡ 0 → ⊥) → Sent n table (called w c) (newCopy w c)
@@ -142,7 +147,11 @@ module _ (n : ℕ) (table : List Entry) (law : Lawful n table) (w : World) (c : 
         is = copy-is w c (o .entry) t (o .frame) z (here .own);
         from = may .ledger;
         among = o .destination;
-        in-time = (omega arith, subst (λ f. heardClock (w .ledgers (c .to)) f ≤ lastTime) (o .frame) (brings (w .ledgers (c .to)) (frameOf c) (t .is-sound) (here .shape) (t .unrefused) .in-time));
+        in-time = (
+          omega arith,
+          subst (λ f. heardClock (w .ledgers (c .to)) f ≤ lastTime) (o .frame)
+              (brings (w .ledgers (c .to)) (frameOf c) (t .is-sound) (here .shape) (t .unrefused) .in-time),
+        );
         heard = own-heard o t;
       }
 
@@ -157,7 +166,8 @@ module _ (n : ℕ) (table : List Entry) (law : Lawful n table) (w : World) (c : 
 
   -- the copy that a frame makes this ledger write
   abbrev Wrote : Incoming → Type 0
-  Wrote f = (m : ℕ) → m ≡ f .payment .0 → (d : ℕ) → d ≡ f .destinations → (q : ℕ) → q ≡ speaker (w .ledgers (c .to)) f → (t : ℕ) → t ≡ spokenTime (w .ledgers (c .to)) f
+  Wrote f = (m : ℕ) → m ≡ f .payment .0 → (d : ℕ) → d ≡ f .destinations → (q : ℕ) → q ≡ speaker (w .ledgers (c .to)) f → (t : ℕ)
+      → t ≡ spokenTime (w .ledgers (c .to)) f
       → q ≡ c .to → (without d q ≡ 0 → ⊥) → In (copyOf (entryOf m d) q t) (called w c .written)
 
   wrote : taken-call w c → Wrote (frameOf c)
@@ -165,7 +175,8 @@ module _ (n : ℕ) (table : List Entry) (law : Lawful n table) (w : World) (c : 
       ⊎-elim
       (λ o. subst Wrote (sym (o .frame)) (λ m em d ed q eq t et e z.
       let some : newCopy w c .recipients ≡ 0 → ⊥
-      = λ y. z (ap (λ x. without x q) ed ∙ ap (without (o .entry .destinations)) eq ∙ sym (ap (λ x. x .recipients) (k .so) ∙ ap (recipientsOf (w .ledgers (c .to))) (o .frame)) ∙ y) in
+      = λ y. z (ap (λ x. without x q) ed ∙ ap (without (o .entry .destinations)) eq
+      ∙ sym (ap (λ x. x .recipients) (k .so) ∙ ap (recipientsOf (w .ledgers (c .to))) (o .frame)) ∙ y) in
       let same : newCopy w c ≡ copyOf (entryOf m d) q t
       = copy-is w c (o .entry) k (o .frame) some (here .own)
       ∙ ap (λ j. copyOf (o .entry) j (w .ledgers (c .to) .clock .0 + 1)) (sym e)
@@ -174,11 +185,13 @@ module _ (n : ℕ) (table : List Entry) (law : Lawful n table) (w : World) (c : 
       ∙ ap (λ x. copyOf (entryOf m x) q t) (sym ed) in
       subst (λ x. In x (called w c .written)) same (copies-new w c k some)))
       (λ o. subst Wrote (sym (o .frame)) (λ m em d ed q eq t et e z.
-      absurd (other-destination (o .sent .entry .destinations) (o .sent .writer) (c .to) (in-byte n table law (o .sent .entry) (o .sent .in-table)) (o .sent .from .0) (few (o .sent .from .1))
+      absurd (other-destination (o .sent .entry .destinations) (o .sent .writer) (c .to)
+      (in-byte n table law (o .sent .entry) (o .sent .in-table)) (o .sent .from .0) (few (o .sent .from .1))
       (few (may .ledger .1)) (o .recipient) .0 (sym e ∙ eq))))
       came
 
-  sent-next : (q m d t : ℕ) → 1 ≤ q → q ≤ n → Heard (next q) m d q t → (without d q ≡ 0 → ⊥) → In (copyOf (entryOf m d) q t) (called w c .written)
+  sent-next : (q m d t : ℕ) → 1 ≤ q → q ≤ n → Heard (next q) m d q t → (without d q ≡ 0 → ⊥)
+      → In (copyOf (entryOf m d) q t) (called w c .written)
   sent-next q m d t h₁ hₙ =
       by-call w c (λ l. Heard l m d q t → (without d q ≡ 0 → ⊥) → In (copyOf (entryOf m d) q t) (called w c .written)) (here .shape) q
       (λ h z. copies-kept w c _ (a .sent q m d t h₁ hₙ h z))
@@ -199,12 +212,14 @@ module _ (n : ℕ) (table : List Entry) (law : Lawful n table) (w : World) (c : 
 
 -- before any call
 module _ (n : ℕ) (table : List Entry) (law : Lawful n table) where
-  lawful : (k : ℕ) → 1 ≤ k → k ≤ n → lawfulSetUp n k ≡ true
-  lawful k h₁ hₙ = and-both (le-leb _ _ (law .ledgers .0)) (and-both (le-leb _ _ (law .ledgers .1)) (and-both (le-leb _ _ h₁) (le-leb _ _ hₙ)))
+  lawful : (k : ℕ) → 1 ≤ k → k ≤ n → isLedgerOf n k ≡ true
+  lawful k h₁ hₙ = and-both (and-both (le-leb _ _ (law .ledgers .0)) (le-leb _ _ (law .ledgers .1)))
+      (and-both (le-leb _ _ h₁) (le-leb _ _ hₙ))
 
   pub set-up-is : (k : ℕ) → 1 ≤ k → k ≤ n → setUp n k .state ≡ fresh n k
   unfolding setUp
-  set-up-is k h₁ hₙ = ap (λ b. cond {A = SetUp} b (record { state = fresh n k; answer = 0 }) (record { state = fresh 0 0; answer = 1 }) .state) (lawful k h₁ hₙ)
+  set-up-is k h₁ hₙ = ap (λ b. cond {A = SetUp} b (record { state = fresh n k; answer = 0 })
+      (record { state = fresh 0 0; answer = 1 }) .state) (lawful k h₁ hₙ)
 
   pub nothing-held : (k m : ℕ) (P : Payment → Type 0) → 1 ≤ k → k ≤ n → Holds (setUp n k .state) m P → ⊥
   nothing-held k m P h₁ hₙ h = let u = subst (λ l. h .at-place < l .count) (set-up-is k h₁ hₙ) (h .used) in omega arith

@@ -1,21 +1,22 @@
 -- One call in a run: the ledger that is called changes as its step says, the others stay.
 -- Assumes nothing.
+use Rattle.common.proofs.PlaceLaws.{by-place}
 use Prim.Native.Nat.{ℕ, _≤_}
 use mathlib.Core.Path.{_≡_, refl, ap, sym, _∙_, subst}
 use mathlib.Core.Bool.{true, cond}
 use lib.Dec.{eqb}
 use borrow.Author.Tests.{eq-eqb, eqb-false, eqb-true, ne-eqb}
-use Rattle.payment.specs.Ledgers.{mostLedgers}
+use Rattle.ledgers.specs.Ledgers.{mostLedgers}
 use Rattle.common.proofs.TestLaws.{split}
 use Rattle.frame.specs.Frames.{frameValues}
 use Rattle.ledger.specs.Sound.{sound}
-use Rattle.ledger.specs.Refusals.{answerTo, incoming}
+use Rattle.ledger.specs.Table.{answerTo}
+use Rattle.refusals.specs.Refusals.{incoming}
 use Rattle.ledger.specs.Step.{step}
-use Rattle.ledger.specs.declared.Incoming.{Incoming}
+use Rattle.refusals.specs.declared.Incoming.{Incoming}
 use Rattle.ledger.specs.declared.Ledger.{Ledger}
 use Rattle.ledger.proofs.JudgeLaws.{place-range}
 use Rattle.soundness.specs.Shaped.{Shaped}
-use Rattle.soundness.proofs.Replacing.{by-place}
 use Rattle.soundness.proofs.Steps.{Taken, is-refused, is-taken, step-shaped, step-sound}
 use Rattle.agreement.specs.Run.{Call, World, called, replaced}
 use Rattle.agreement.proofs.View.{View, taken-view}
@@ -62,21 +63,26 @@ module _ (w : World) (c : Call) where
 
   -- a ledger after a call: as it was, or changed by a frame that is taken
   pub by-call : (A : Ledger → Type 0) → Shaped before → (j : ℕ) → A (w .ledgers j)
-      → (j ≡ c .to → (t : Taken before (c .frame) (c .outgoing) (c .list)) → View before (frameOf c) (called w c .ledgers (c .to)) → A (called w c .ledgers (c .to)))
+      → (j ≡ c .to → (t : Taken before (c .frame) (c .outgoing) (c .list)) → View before (frameOf c) (called w c .ledgers (c .to))
+      → A (called w c .ledgers (c .to)))
       → A (called w c .ledgers j)
   by-call A shape j old new =
       by-place j (c .to)
       (λ e. split (eqb answer 0)
       (λ t. let k = is-taken before (c .frame) (c .outgoing) (c .list) (eqb-true _ _ t) in
       subst (λ i. A (called w c .ledgers i)) (sym e) (new e k (view k shape)))
-      (λ t. subst A (sym (ap (called w c .ledgers) e ∙ at-self ∙ ap (λ o. o .state) (is-refused before (c .frame) (c .outgoing) (c .list) (eqb-false _ _ t)))) (subst (λ i. A (w .ledgers i)) e old)))
+      (λ t. subst A (sym (ap (called w c .ledgers) e ∙ at-self
+      ∙ ap (λ o. o .state) (is-refused before (c .frame) (c .outgoing) (c .list) (eqb-false _ _ t))))
+      (subst (λ i. A (w .ledgers i)) e old)))
       (λ n. subst A (sym (at-other j n)) old)
 
   -- what a ledger has heard stays
-  pub heard-stays : Shaped before → (j m d q t : ℕ) → 1 ≤ q → q ≤ mostLedgers → Heard (w .ledgers j) m d q t → Heard (called w c .ledgers j) m d q t
+  pub heard-stays : Shaped before → (j m d q t : ℕ) → 1 ≤ q → q ≤ mostLedgers → Heard (w .ledgers j) m d q t
+      → Heard (called w c .ledgers j) m d q t
   heard-stays shape j m d q t h₁ h₈ h =
       by-call (λ l. Heard l m d q t) shape j h
-      (λ e k v. heard-kept before (frameOf c) (k .is-sound) shape (k .unrefused) (called w c .ledgers (c .to)) v m d q t h₁ h₈ (subst (λ i. Heard (w .ledgers i) m d q t) e h))
+      (λ e k v. heard-kept before (frameOf c) (k .is-sound) shape (k .unrefused) (called w c .ledgers (c .to)) v m d q t h₁ h₈
+      (subst (λ i. Heard (w .ledgers i) m d q t) e h))
 
   pub well-stays : (n k : ℕ) → Well n (c .to) before → Well n k (w .ledgers k) → Well n k (called w c .ledgers k)
   well-stays n k b h =

@@ -1,5 +1,6 @@
 -- Clocks stay far below their end: no clock is above the number of own times given so far, and a ledger gives one for each payment.
 -- Assumes nothing.
+use Rattle.common.proofs.PlaceLaws.{by-place}
 use Prim.Native.Nat.{ℕ, zero, suc, _+_, _*_, _<_, _≤_}
 use mathlib.Core.Path.{_≡_, refl, ap, sym, _∙_, subst}
 use mathlib.Core.List.{List}
@@ -10,23 +11,23 @@ use native.Mathlib.Omega.{arith}
 use borrow.Author.Tests.{eqb-true}
 use Rattle.common.specs.Places.{count}
 use Rattle.common.proofs.TestLaws.{split}
-use Rattle.payment.specs.Ledgers.{has, mostLedgers}
+use Rattle.ledgers.specs.Ledgers.{has, mostLedgers}
 use Rattle.payment.specs.Payments.{allHeard, heardFrom, stampOf, timeFrom}
-use Rattle.payment.specs.Right.{notAboveClock}
+use Rattle.right.specs.Right.{notAboveClock}
 use Rattle.payment.proofs.GreatestLaws.{greatest-time}
 use Rattle.held.specs.Held.{at, limit}
-use Rattle.held.proofs.ReflectLaws.{each-at}
-use Rattle.ledger.specs.Refusals.{firstGiven, isPropose, judged}
+use Rattle.checked.proofs.ReflectLaws.{each-at}
+use Rattle.refusals.specs.Refusals.{firstGiven, isPropose}
+use Rattle.ledger.specs.Table.{valueRows}
 use Rattle.ledger.specs.Sound.{sound}
 use Rattle.ledger.specs.Step.{paymentFor, placeFor}
-use Rattle.ledger.specs.declared.Incoming.{Incoming}
+use Rattle.refusals.specs.declared.Incoming.{Incoming}
 use Rattle.ledger.specs.declared.Ledger.{Ledger}
 use Rattle.ledger.proofs.JudgeLaws.{place-range}
 use Rattle.ledger.proofs.SoundLaws.{clauses}
 use Rattle.soundness.specs.Shaped.{Shaped}
 use Rattle.soundness.proofs.Accepted.{own-below}
 use Rattle.soundness.proofs.Kept.{brings, heardClock, heardPayment}
-use Rattle.soundness.proofs.Replacing.{by-place}
 use Rattle.agreement.specs.Run.{Call, Entry, Lawful, May, World, called}
 use Rattle.agreement.specs.Claims.{OfGroup}
 use Rattle.agreement.proofs.Agreed.{Agrees, agrees-next, of-table}
@@ -52,17 +53,22 @@ own-time-below n q l well m d t x =
     let p = at (l .payments) (x .at-place) in
     subst (λ z. z ≤ l .clock .0) (ap (timeFrom p) (well .own) ∙ x .so .time)
     (own-below p (l .own .0) (l .clock .0) (ap (heardFrom p) (well .own) ∙ x .so .heard)
-    (each-at (l .payments) (l .count) (notAboveClock (l .own .0) (l .clock .0)) (clauses l (well .is-sound) .kept .clock) (x .at-place) (x .within) (x .used)))
+    (each-at (l .payments) (l .count) (notAboveClock (l .own .0) (l .clock .0)) (clauses l (well .is-sound) .kept .clock) (x .at-place)
+    (x .within) (x .used)))
 
-module _ (l : Ledger) (f : Incoming) (is-sound : sound l ≡ true) (shape : Shaped l) (e : firstGiven (judged l f) ≡ 0) (after : Ledger) (v : View l f after)
+module _ (l : Ledger) (f : Incoming) (is-sound : sound l ≡ true) (shape : Shaped l) (e : firstGiven (valueRows l f) ≡ 0)
+    (after : Ledger) (v : View l f after)
     (own : (1 ≤ l .own .0) × (l .own .0 ≤ mostLedgers)) where
   -- an own time that is given stays
-  given-stays : (i : ℕ) → i < limit → heardFrom (at (l .payments) i) (l .own .0) ≡ true → heardFrom (at (after .payments) i) (after .own .0) ≡ true
+  given-stays : (i : ℕ) → i < limit → heardFrom (at (l .payments) i) (l .own .0) ≡ true
+      → heardFrom (at (after .payments) i) (after .own .0) ≡ true
   given-stays i h t =
       subst (λ o. heardFrom (at (after .payments) i) (o .0) ≡ true) (sym (v .own))
       (by-place i (placeFor l f)
-      (λ q. let was : heardFrom (paymentFor l f) (l .own .0) ≡ true = sym (place-heard l is-sound f e (l .own .0)) ∙ subst (λ j. heardFrom (at (l .payments) j) (l .own .0) ≡ true) q t in
-      let now = still-heard l f is-sound shape e _ (l .own .0) _ (own .0) (own .1) (record { destinations = refl; heard = was; time = refl }) in
+      (λ q. let was : heardFrom (paymentFor l f) (l .own .0) ≡ true = sym (place-heard l is-sound f e (l .own .0))
+      ∙ subst (λ j. heardFrom (at (l .payments) j) (l .own .0) ≡ true) q t in
+      let now = still-heard l f is-sound shape e _ (l .own .0) _ (own .0) (own .1)
+      (record { destinations = refl; heard = was; time = refl }) in
       ap (λ j. heardFrom (at (after .payments) j) (l .own .0)) q ∙ ap (λ b. has b (l .own .0)) (v .self .heard) ∙ now .heard)
       (λ q. ap (λ b. has b (l .own .0)) (v .other i h q .heard) ∙ t))
 
@@ -104,7 +110,8 @@ module _ (n : ℕ) (table : List Entry) (law : Lawful n table) (w : World) (c : 
   given-more : taken-call w c → isPropose (frameOf c) ≡ false → given n w < given n (called w c)
   given-more t k =
       let h = may .ledger in
-      let more = own-times-more before (frameOf c) (t .is-sound) (called-well .shape) (t .unrefused) (called w c .ledgers (c .to)) (view w c t (called-well .shape)) own-in k in
+      let more = own-times-more before (frameOf c) (t .is-sound) (called-well .shape) (t .unrefused) (called w c .ledgers (c .to))
+      (view w c t (called-well .shape)) own-in k in
       at-number (c .to) (h .0) (h .1) more
     where
       at-number : (j : ℕ) → 1 ≤ j → j ≤ n → ownTimes (w .ledgers j) < ownTimes (called w c .ledgers j) → given n w < given n (called w c)
@@ -116,24 +123,31 @@ module _ (n : ℕ) (table : List Entry) (law : Lawful n table) (w : World) (c : 
   heard-bound t =
       let old = bound (c .to) (may .ledger) in
       split (isPropose (frameOf c))
-      (λ k. subst (λ b. cond b (w .ledgers (c .to) .clock .0) (w .ledgers (c .to) .clock .0 + 1) ≤ given n (called w c)) (sym k) (le-trans old given-up))
+      (λ k. subst (λ b. cond b (w .ledgers (c .to) .clock .0) (w .ledgers (c .to) .clock .0 + 1) ≤ given n (called w c)) (sym k)
+      (le-trans old given-up))
       (λ k. subst (λ b. cond b (w .ledgers (c .to) .clock .0) (w .ledgers (c .to) .clock .0 + 1) ≤ given n (called w c)) (sym k)
       (let more = given-more t k in omega (arith, old, more)))
 
   -- a time that is heard is its ledger's own, and so not above that ledger's clock
-  time-bound : taken-call w c → (q : ℕ) → OfGroup n q → heardFrom (heardPayment before (frameOf c)) q ≡ true → timeFrom (heardPayment before (frameOf c)) q ≤ given n (called w c)
+  time-bound : taken-call w c → (q : ℕ) → OfGroup n q → heardFrom (heardPayment before (frameOf c)) q ≡ true
+      → timeFrom (heardPayment before (frameOf c)) q ≤ given n (called w c)
   time-bound t q hq h =
       by-place q (c .to)
       (λ e. let own = e ∙ sym (called-well .own) in
       subst (λ j. timeFrom (heardPayment before (frameOf c)) j ≤ given n (called w c)) (sym own)
-      (le-trans (brings before (frameOf c) (t .is-sound) (called-well .shape) (t .unrefused) .own-time (subst (λ j. heardFrom (heardPayment before (frameOf c)) j ≡ true) own h)) (heard-bound t)))
-      (λ e. let now = has-now before (frameOf c) (t .is-sound) (called-well .shape) (t .unrefused) (called w c .ledgers (c .to)) (view w c t (called-well .shape))
-      (HeardTime (heardPayment before (frameOf c) .destinations) q (timeFrom (heardPayment before (frameOf c)) q)) (heard-lasts _ q _) (record { destinations = refl; heard = h; time = refl }) in
+      (le-trans (brings before (frameOf c) (t .is-sound) (called-well .shape) (t .unrefused) .own-time
+      (subst (λ j. heardFrom (heardPayment before (frameOf c)) j ≡ true) own h)) (heard-bound t)))
+      (λ e. let now = has-now before (frameOf c) (t .is-sound) (called-well .shape) (t .unrefused) (called w c .ledgers (c .to))
+      (view w c t (called-well .shape))
+      (HeardTime (heardPayment before (frameOf c) .destinations) q (timeFrom (heardPayment before (frameOf c)) q)) (heard-lasts _ q _)
+      (record { destinations = refl; heard = h; time = refl }) in
       let there = agrees-next n table law w c may a .agreed (c .to) q _ _ _ (may .ledger .0) (may .ledger .1) (hq .0) (hq .1) now in
-      let its = subst (λ l. Heard l (frameOf c .payment .0) (heardPayment before (frameOf c) .destinations) q (timeFrom (heardPayment before (frameOf c)) q)) (at-other w c q e) there in
+      let its = subst (λ l. Heard l (frameOf c .payment .0) (heardPayment before (frameOf c) .destinations) q
+      (timeFrom (heardPayment before (frameOf c)) q)) (at-other w c q e) there in
       le-trans (own-time-below n q (w .ledgers q) (a .well q (hq .0) (hq .1)) _ _ _ its) (le-trans (bound q hq) given-up))
 
-  stamp-bound : taken-call w c → allHeard (heardPayment before (frameOf c)) ≡ true → stampOf (heardPayment before (frameOf c)) .time .0 ≤ given n (called w c)
+  stamp-bound : taken-call w c → allHeard (heardPayment before (frameOf c)) ≡ true
+      → stampOf (heardPayment before (frameOf c)) .time .0 ≤ given n (called w c)
   stamp-bound t all =
       let p = heardPayment before (frameOf c) in
       let goes = heard-goes before (frameOf c) (t .is-sound) (called-well .shape) (t .unrefused) in

@@ -13,22 +13,34 @@ use Rattle.frame.specs.Digits.{fitting}
 use Rattle.frame.specs.Frames.{body, frameBytes, frameValues, known, notAFrame, table, valuesOf}
 use Rattle.frame.specs.declared.Frame.the-variants.{Multicast, Propose}
 use Rattle.frame.proofs.RoundTrip.{bytes-read}
-use Rattle.payment.specs.Ledgers.{has, mostLedgers, without}
+use Rattle.ledgers.specs.Ledgers.{has, mostLedgers, without}
 use Rattle.payment.specs.Payments.{lastTime}
-use Rattle.ledger.specs.Refusals.{incoming}
-use Rattle.ledger.specs.declared.Incoming.{Incoming}
+use Rattle.refusals.specs.Refusals.{incoming}
+use Rattle.refusals.specs.declared.Incoming.{Incoming}
 use Rattle.common.specs.Places.{In}
 use Rattle.agreement.specs.Run.{Call, Written, Entry, Lawful, May, OfDesk, OfLedger, World, multicastCopy}
 use Rattle.agreement.proofs.Hearing.{Heard}
 use Rattle.agreement.proofs.Calls.{frameOf}
-use Rattle.payment.proofs.OtherLaws.{other-destination}
+use Rattle.ledgers.proofs.OtherLaws.{other-destination}
 
 -- a MULTICAST of a payment, and ledger q's PROPOSE of time t for it, as they are read
 abbrev pub deskFrame : Entry → Incoming
-deskFrame e = record { kind = 1; payment = record { 0 = e .number }; destinations = e .destinations; source = record { 0 = 0 }; time = record { 0 = 0 } }
+deskFrame e = record {
+  kind = 1;
+  payment = record { 0 = e .number };
+  destinations = e .destinations;
+  source = record { 0 = 0 };
+  time = record { 0 = 0 };
+}
 
 abbrev pub ledgerFrame : Entry → ℕ → ℕ → Incoming
-ledgerFrame e q t = record { kind = 2; payment = record { 0 = e .number }; destinations = e .destinations; source = record { 0 = q }; time = record { 0 = t } }
+ledgerFrame e q t = record {
+  kind = 2;
+  payment = record { 0 = e .number };
+  destinations = e .destinations;
+  source = record { 0 = q };
+  time = record { 0 = t };
+}
 
 -- ledger q's PROPOSE with its recipients
 abbrev pub copyOf : Entry → ℕ → ℕ → Written
@@ -42,7 +54,8 @@ fits-desk : (m d : ℕ) → m < 2 ^ 32 → d < 2 ^ mostLedgers → fitting (body
 unfolding body fitting
 fits-desk m d h₁ h₂ = simp (lt-ltb _ _ h₁, lt-ltb _ _ h₂)
 
-fits-ledger : (m d q t : ℕ) → m < 2 ^ 32 → d < 2 ^ mostLedgers → q < 2 ^ mostLedgers → t < 2 ^ 16 → fitting (body table 2) (m ∷ d ∷ q ∷ t ∷ []) ≡ true
+fits-ledger : (m d q t : ℕ) → m < 2 ^ 32 → d < 2 ^ mostLedgers → q < 2 ^ mostLedgers → t < 2 ^ 16
+    → fitting (body table 2) (m ∷ d ∷ q ∷ t ∷ []) ≡ true
 unfolding body fitting
 fits-ledger m d q t h₁ h₂ h₃ h₄ = simp (lt-ltb _ _ h₁, lt-ltb _ _ h₂, lt-ltb _ _ h₃, lt-ltb _ _ h₄)
 
@@ -86,9 +99,11 @@ module _ (n : ℕ) (table : List Entry) (law : Lawful n table) where
       omega arith
 
   -- a desk's MULTICAST as it is read
-  pub read-multicast : (e : Entry) → In e table → (c : Call) → c .frame ≡ multicastCopy e → (notAFrame (c .frame) ≡ false) × (frameOf c ≡ deskFrame e)
+  pub read-multicast : (e : Entry) → In e table → (c : Call) → c .frame ≡ multicastCopy e → (notAFrame (c .frame) ≡ false)
+      × (frameOf c ≡ deskFrame e)
   read-multicast e i c bytes =
-      let read = bytes-read (valuesOf (Multicast (record { 0 = e .number }) (e .destinations))) (both-known .0) (fits-desk (e .number) (e .destinations) (law .number e i .1) (in-byte e i)) in
+      let read = bytes-read (valuesOf (Multicast (record { 0 = e .number }) (e .destinations))) (both-known .0)
+      (fits-desk (e .number) (e .destinations) (law .number e i .1) (in-byte e i)) in
       (ap notAFrame bytes ∙ read .0, ap (λ b. incoming (frameValues b)) bytes ∙ ap incoming (read .1))
 
   pub from-desk : (c : Call) → OfDesk table c → FromDesk table c
@@ -107,14 +122,16 @@ module _ (n : ℕ) (table : List Entry) (law : Lawful n table) where
       → (notAFrame (c .frame) ≡ false) × (frameOf c ≡ ledgerFrame e q t)
   read-propose e i q t last early c bytes =
       let few = law .ledgers .1 in
-      let read = bytes-read (valuesOf (Propose (record { 0 = e .number }) (e .destinations) (record { 0 = q }) (record { 0 = t }))) (both-known .1)
+      let read = bytes-read (valuesOf (Propose (record { 0 = e .number }) (e .destinations) (record { 0 = q }) (record { 0 = t })))
+      (both-known .1)
       (fits-ledger (e .number) (e .destinations) q t (law .number e i .1) (in-byte e i) (omega arith) (omega arith)) in
       (ap notAFrame bytes ∙ read .0, ap (λ b. incoming (frameValues b)) bytes ∙ ap incoming (read .1))
 
   pub from-ledger : (w : World) (c : Call) → ((x : Written) → In x (w .written) → Sent n table w x) → OfLedger w c → FromLedger n table w c
   from-ledger w c all o =
       let s = all (o .propose) (o .written) in
-      let read = read-propose (s .entry) (s .in-table) (s .writer) (s .time) (s .from .1) (s .in-time .1) c (o .frame ∙ ap (λ x. x .frame) (s .is)) in
+      let read = read-propose (s .entry) (s .in-table) (s .writer) (s .time) (s .from .1) (s .in-time .1) c
+      (o .frame ∙ ap (λ x. x .frame) (s .is)) in
       record {
         propose = o .propose;
         sent = s;
@@ -124,7 +141,8 @@ module _ (n : ℕ) (table : List Entry) (law : Lawful n table) where
       }
 
   -- what is handed in goes to one of its destinations
-  pub to-destination : (w : World) (c : Call) → ((x : Written) → In x (w .written) → Sent n table w x) → May n table w c → has (frameOf c .destinations) (c .to) ≡ true
+  pub to-destination : (w : World) (c : Call) → ((x : Written) → In x (w .written) → Sent n table w x) → May n table w c
+      → has (frameOf c .destinations) (c .to) ≡ true
   to-destination w c all may =
       ⊎-elim
       (λ o. let f = from-desk c o in ap (λ x. has (x .destinations) (c .to)) (f .frame) ∙ f .destination)
@@ -132,5 +150,6 @@ module _ (n : ℕ) (table : List Entry) (law : Lawful n table) where
       let few = law .ledgers .1 in
       let last = may .ledger .1 in
       ap (λ x. has (x .destinations) (c .to)) (f .frame)
-      ∙ other-destination (f .sent .entry .destinations) (f .sent .writer) (c .to) (in-byte (f .sent .entry) (f .sent .in-table)) (f .sent .from .0) (le-trans (f .sent .from .1) few) (le-trans last few) (f .recipient) .1)
+      ∙ other-destination (f .sent .entry .destinations) (f .sent .writer) (c .to) (in-byte (f .sent .entry) (f .sent .in-table))
+      (f .sent .from .0) (le-trans (f .sent .from .1) few) (le-trans last few) (f .recipient) .1)
       (may .copy)

@@ -12,8 +12,8 @@ use lib.ListN.{getD, length}
 use lib.Pow.{pow-mono}
 use borrow.Author.Tests.{ltb-false, ltb-true}
 use Rattle.common.proofs.TestLaws.{both, split}
-use Rattle.payment.specs.Ledgers.{has}
-use Rattle.payment.proofs.LedgerLaws.{has-none}
+use Rattle.ledgers.specs.Ledgers.{has}
+use Rattle.ledgers.proofs.LedgerLaws.{has-none}
 use Rattle.common.specs.Places.{In}
 use Rattle.agreement.specs.Run.{Entry, Lawful, noEntry}
 use Rattle.agreement.specs.Claims.{OfGroup}
@@ -48,7 +48,8 @@ module _ (n : ℕ) (table : List Entry) (law : Lawful n table) where
   one-entry e g he hg q =
       let x = place-in table e he in
       let y = place-in table g hg in
-      let same : getD table (x .0) noEntry .number ≡ getD table (y .0) noEntry .number = ap (λ z. z .number) (x .2) ∙ q ∙ sym (ap (λ z. z .number) (y .2)) in
+      let same : getD table (x .0) noEntry .number ≡ getD table (y .0) noEntry .number = ap (λ z. z .number) (x .2) ∙ q
+      ∙ sym (ap (λ z. z .number) (y .2)) in
       split (ltb (x .0) (y .0))
       (λ t. absurd (law .differ (x .0) (y .0) (ltb-true _ _ t) (y .1) same))
       (λ t. split (ltb (y .0) (x .0))

@@ -6,18 +6,19 @@ use mathlib.Core.Bool.{true, cond}
 use native.Mathlib.Nat.{lt-irrefl}
 use lib.Dec.{ltb}
 use borrow.Author.Tests.{ltb-false, ltb-true}
+use Rattle.ledgers.proofs.LedgerLaws.{has-empty}
 use Rattle.common.proofs.TestLaws.{both, split}
-use Rattle.payment.specs.Payments.{heardFrom}
-use Rattle.payment.specs.Right.{unused}
+use Rattle.payment.specs.Payments.{heardFrom, newPayment}
+use Rattle.right.specs.Right.{unused}
 use Rattle.payment.specs.declared.Payment.{Payment}
-use Rattle.payment.proofs.RightLaws.{has-empty, unused-heard}
+use Rattle.right.proofs.RightLaws.{unused-heard}
 use Rattle.held.specs.Held.{at, holds, limit, placeOf}
-use Rattle.held.proofs.ReflectLaws.{unused-at}
-use Rattle.ledger.specs.Refusals.{firstGiven, heldOne, isHeld, judged}
+use Rattle.checked.proofs.ReflectLaws.{unused-at}
+use Rattle.refusals.specs.Refusals.{firstGiven, heldOne, isHeld}
+use Rattle.ledger.specs.Table.{valueRows}
 use Rattle.ledger.specs.Sound.{sound}
-use Rattle.ledger.specs.State.{newPayment}
 use Rattle.ledger.specs.Step.{paymentFor, placeFor}
-use Rattle.ledger.specs.declared.Incoming.{Incoming}
+use Rattle.refusals.specs.declared.Incoming.{Incoming}
 use Rattle.ledger.specs.declared.Ledger.{Ledger}
 use Rattle.ledger.proofs.JudgeLaws.{place-range}
 use Rattle.ledger.proofs.SoundLaws.{clauses}
@@ -51,12 +52,14 @@ module _ (l : Ledger) (is-sound : sound l ≡ true) where
   at-holds m P x = split (holds (l .payments) m) (λ t. t) (λ t. absurd (missing (l .payments) m (x .at-place) t (x .within) (x .number)))
 
   -- what was heard for the frame's payment stands at its place
-  pub place-heard : (f : Incoming) → firstGiven (judged l f) ≡ 0 → (q : ℕ) → heardFrom (at (l .payments) (placeFor l f)) q ≡ heardFrom (paymentFor l f) q
+  pub place-heard : (f : Incoming) → firstGiven (valueRows l f) ≡ 0 → (q : ℕ)
+      → heardFrom (at (l .payments) (placeFor l f)) q ≡ heardFrom (paymentFor l f) q
   place-heard f e q =
-      split (isHeld l f)
+      split (isHeld (l .payments) f)
       (λ h. ap (λ c. heardFrom (at (l .payments) (cond c (placeOf (l .payments) (f .payment .0)) (l .count))) q) h
-      ∙ sym (ap (λ c. heardFrom (cond c (heldOne l f) (newPayment (f .payment .0) (f .destinations))) q) h))
+      ∙ sym (ap (λ c. heardFrom (cond c (heldOne (l .payments) f) (newPayment (f .payment .0) (f .destinations))) q) h))
       (λ h. split (heardFrom (at (l .payments) (placeFor l f)) q)
       (λ t. let u = heard-used (placeFor l f) q (place-range l f is-sound e) t in
       absurd (lt-irrefl (l .count) (subst (λ i. i < l .count) (ap (λ c. cond c (placeOf (l .payments) (f .payment .0)) (l .count)) h) u)))
-      (λ t. t ∙ sym (ap (λ c. heardFrom (cond c (heldOne l f) (newPayment (f .payment .0) (f .destinations))) q) h ∙ has-empty q)))
+      (λ t. t ∙ sym (ap (λ c. heardFrom (cond c (heldOne (l .payments) f) (newPayment (f .payment .0) (f .destinations))) q) h
+      ∙ has-empty q)))

@@ -9,22 +9,23 @@ use native.Mathlib.Nat.{le-trans}
 use native.Mathlib.Omega.{arith}
 use lib.Dec.{ltb}
 use borrow.Author.Tests.{eqb-true, ltb-false, ltb-true}
+use Rattle.ledgers.proofs.LedgerLaws.{has-empty}
 use Rattle.common.specs.Bits.{bit}
 use Rattle.common.specs.Places.{In}
-use Rattle.common.proofs.PlaceLaws.{any-not}
+use Rattle.common.proofs.PlaceLaws.{any-not, by-place}
 use Rattle.common.proofs.TestLaws.{both, or-cases, same, split}
-use Rattle.payment.specs.Ledgers.{has, mostLedgers}
+use Rattle.ledgers.specs.Ledgers.{has, mostLedgers}
 use Rattle.payment.specs.Payments.{hasStamp, heardFrom, isPosted, isStamped, lastTime, stampOf}
-use Rattle.payment.specs.Right.{heardRight, phaseRight}
+use Rattle.right.specs.Right.{heardRight, phaseRight}
 use Rattle.payment.specs.declared.Payment.{Payment}
-use Rattle.payment.proofs.RightLaws.{all-stamped, has-empty, heard-destination}
+use Rattle.right.proofs.RightLaws.{all-stamped, heard-destination}
 use Rattle.held.specs.Held.{at, limit}
-use Rattle.held.proofs.FreeLaws.{back-other, free-so}
-use Rattle.held.proofs.ReflectLaws.{each-at, free-none, unused-at}
-use Rattle.ledger.specs.declared.Incoming.{Incoming}
+use Rattle.posting.proofs.FreeLaws.{back-other, free-none, free-so}
+use Rattle.checked.proofs.ReflectLaws.{each-at, unused-at}
+use Rattle.refusals.specs.declared.Incoming.{Incoming}
 use Rattle.ledger.specs.declared.Ledger.{Ledger}
 use Rattle.ledger.proofs.SoundLaws.{clauses}
-use Rattle.soundness.proofs.Replacing.{by-place, unused-phase}
+use Rattle.soundness.proofs.Replacing.{unused-phase}
 use Rattle.agreement.specs.Run.{Call, Calls, Entry, Lawful, World, after, multicastCopy}
 use Rattle.agreement.specs.Claims.{AllHandedIn, HandedIn, Holds, OfGroup}
 use Rattle.agreement.proofs.Agreed.{Agrees, Goes, entryOf}
@@ -37,9 +38,10 @@ use Rattle.agreement.proofs.Handed.{Got}
 use Rattle.agreement.proofs.Hearing.{Heard, HeardTime, at-one-place}
 use Rattle.agreement.proofs.Stamps.{goes-there}
 use Rattle.agreement.proofs.Invariant.{clock-bound, got, kept}
-use Rattle.payment.proofs.OtherLaws.{among-others}
+use Rattle.ledgers.proofs.OtherLaws.{among-others}
 
-module _ (n : ℕ) (table : List Entry) (law : Lawful n table) (cs : List Call) (calls : Calls n table cs) (handed : AllHandedIn n table cs) where
+module _ (n : ℕ) (table : List Entry) (law : Lawful n table) (cs : List Call) (calls : Calls n table cs)
+    (handed : AllHandedIn n table cs) where
   abbrev w : World
   w = after n cs
 
@@ -53,20 +55,23 @@ module _ (n : ℕ) (table : List Entry) (law : Lawful n table) (cs : List Call) 
   of-group e i q = in-group n (e .destinations) q (law .destinations e i .1)
 
   -- what was handed in of a frame that reads so
-  heard-of : (f : Incoming) (frame : List ℕ) (k : ℕ) → HandedIn frame k cs → ((c : Call) → c .frame ≡ frame → frameOf c ≡ f) → Got n k (after n cs .ledgers k) f
+  heard-of : (f : Incoming) (frame : List ℕ) (k : ℕ) → HandedIn frame k cs → ((c : Call) → c .frame ≡ frame → frameOf c ≡ f)
+      → Got n k (after n cs .ledgers k) f
   heard-of f frame k h reads =
       subst (Got n k (w .ledgers k)) (reads (h .call) (h .bytes))
       (subst (λ j. Got n j (w .ledgers j) (frameOf (h .call))) (h .to) (got n table law cs calls (h .call) (h .among)))
 
   -- each destination has given its own time
-  pub own-given : (e : Entry) → In e table → (q : ℕ) → has (e .destinations) q ≡ true → (t : ℕ) × Heard (after n cs .ledgers q) (e .number) (e .destinations) q t
+  pub own-given : (e : Entry) → In e table → (q : ℕ) → has (e .destinations) q ≡ true → (t : ℕ)
+      × Heard (after n cs .ledgers q) (e .number) (e .destinations) q t
   own-given e i q h =
       let g = heard-of (deskFrame e) (multicastCopy e) q (handed .multicasts e i q h)
       (λ c bytes. read-multicast n table law e i c bytes .1) in
       (g .time, g .heard)
 
   -- and the other destinations have heard it
-  all-heard : (e : Entry) → In e table → (k q : ℕ) → has (e .destinations) k ≡ true → has (e .destinations) q ≡ true → (t : ℕ) × Heard (after n cs .ledgers k) (e .number) (e .destinations) q t
+  all-heard : (e : Entry) → In e table → (k q : ℕ) → has (e .destinations) k ≡ true → has (e .destinations) q ≡ true → (t : ℕ)
+      × Heard (after n cs .ledgers k) (e .number) (e .destinations) q t
   all-heard e i k q hk hq =
       by-place k q
       (λ z. subst (λ j. (t : ℕ) × Heard (w .ledgers j) (e .number) (e .destinations) q t) (sym z) (own-given e i q hq))
@@ -75,8 +80,10 @@ module _ (n : ℕ) (table : List Entry) (law : Lawful n table) (cs : List Call) 
       let gq = of-group e i q hq in
       let gk = of-group e i k hk in
       let other = among-others (e .destinations) q k (in-byte n table law e i) (gq .0) (few (gq .1)) (few (gk .1)) z hk in
-      let written = a .sent q (e .number) (e .destinations) t (gq .0) (gq .1) (own .1) (λ y. both other (ap (λ d. has d k) y ∙ has-empty k)) in
-      let early : t ≤ lastTime = let b = own-time-below n q (w .ledgers q) (a .well q (gq .0) (gq .1)) _ _ t (own .1) in let m = clock-bound n table law cs calls q gq in let f = law .ledgers .1 in omega (arith, b, m, f) in
+      let written = a .sent q (e .number) (e .destinations) t (gq .0) (gq .1) (own .1)
+      (λ y. both other (ap (λ d. has d k) y ∙ has-empty k)) in
+      let early : t ≤ lastTime = let b = own-time-below n q (w .ledgers q) (a .well q (gq .0) (gq .1)) _ _ t
+      (own .1) in let m = clock-bound n table law cs calls q gq in let f = law .ledgers .1 in omega (arith, b, m, f) in
       let g = heard-of (ledgerFrame e q t) (copyOf e q t .frame) k (handed .proposes (copyOf e q t) written k other)
       (λ c bytes. read-propose n table law e i q t (gq .1) early c bytes .1) in
       (g .time, g .heard))
@@ -132,7 +139,8 @@ module _ (n : ℕ) (table : List Entry) (law : Lawful n table) (cs : List Call) 
         (λ s. let z : at (l .payments) j .phase ≡ 2 = eqb-true _ _ s in omega (arith, z, e))
         (λ s. let z : at (l .payments) j .phase ≡ 3 = eqb-true _ _ s in omega (arith, z, e))
         (or-cases (isStamped (at (l .payments) j)) (isPosted (at (l .payments) j)) (stamped j h (ltb-true _ _ t))))
-        (λ t. let z = unused-phase (at (l .payments) j) (unused-at (l .payments) (l .count) (clauses l (well .is-sound) .kept .unused) j h (ltb-false _ _ t)) in omega (arith, z, e))
+        (λ t. let z = unused-phase (at (l .payments) j) (unused-at (l .payments) (l .count)
+        (clauses l (well .is-sound) .kept .unused) j h (ltb-false _ _ t)) in omega (arith, z, e))
 
     -- and nothing is held back
     pub all-posted : (i : ℕ) → i < limit → i < after n cs .ledgers k .count → isPosted (at (after n cs .ledgers k .payments) i) ≡ true

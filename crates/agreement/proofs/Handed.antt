@@ -9,17 +9,17 @@ use native.Mathlib.Omega.{arith}
 use borrow.Author.Tests.{eqb-true, not-false, not-true}
 use Rattle.common.proofs.TestLaws.{and-go, and-left, and-right, both, split}
 use Rattle.payment.specs.Payments.{hasProposal, heardFrom, isWaiting, timeFrom}
-use Rattle.payment.specs.Right.{lawful, phaseRight}
+use Rattle.right.specs.Right.{lawful, phaseRight}
 use Rattle.payment.specs.declared.Payment.{Payment}
 use Rattle.held.specs.Held.{at, limit}
-use Rattle.held.proofs.ReflectLaws.{each-at}
-use Rattle.ledger.specs.Refusals.{heldOne, isHeld, isPropose, repeat}
-use Rattle.ledger.specs.declared.Incoming.{Incoming}
+use Rattle.checked.proofs.ReflectLaws.{each-at}
+use Rattle.refusals.specs.Refusals.{heldOne, isHeld, isPropose, repeat}
+use Rattle.refusals.specs.declared.Incoming.{Incoming}
 use Rattle.ledger.specs.declared.Ledger.{Ledger}
 use Rattle.ledger.proofs.SoundLaws.{clauses}
 use Rattle.soundness.proofs.Kept.{spokenTime}
 use Rattle.soundness.proofs.Steps.{is-refused, is-taken}
-use Rattle.soundness.proofs.Table.{refusal-exactly}
+use Rattle.ledger.proofs.Exactly.{refusal-exactly}
 use Rattle.soundness.proofs.Taking.{own-among}
 use Rattle.agreement.specs.Run.{Call, Entry, Lawful, May, World, called}
 use Rattle.agreement.specs.Claims.{Holds, OfGroup}
@@ -28,7 +28,7 @@ use Rattle.agreement.proofs.Answers.{number-right, one-way}
 use Rattle.agreement.proofs.Calls.{Well, answer, at-self, frameOf, view}
 use Rattle.agreement.proofs.Found.{holds-at}
 use Rattle.agreement.proofs.Hearing.{Heard, heard-now}
-use Rattle.payment.proofs.RightLaws.{past-waiting}
+use Rattle.right.proofs.RightLaws.{past-waiting}
 
 -- whose time a frame brings to ledger k: its own for a MULTICAST, the source's for a PROPOSE
 abbrev pub spokenBy : ℕ → Incoming → ℕ
@@ -62,48 +62,62 @@ module _ (n : ℕ) (table : List Entry) (law : Lawful n table) (w : World) (c : 
       record {
         from = from-group;
         time = spokenTime before (frameOf c);
-        heard = subst (λ k. Heard (called w c .ledgers (c .to)) (frameOf c .payment .0) (frameOf c .destinations) (spokenBy k (frameOf c)) (spokenTime before (frameOf c))) (well .own)
-            (heard-now before (frameOf c) (t .is-sound) (well .shape) (t .unrefused) (called w c .ledgers (c .to)) (view w c t (well .shape)));
+        heard = subst (λ k. Heard (called w c .ledgers (c .to)) (frameOf c .payment .0) (frameOf c .destinations)
+            (spokenBy k (frameOf c)) (spokenTime before (frameOf c))) (well .own)
+            (heard-now before (frameOf c) (t .is-sound) (well .shape) (t .unrefused) (called w c .ledgers (c .to))
+            (view w c t (well .shape)));
         told = λ e. ap (λ b. cond b (frameOf c .time .0) (before .clock .0 + 1)) e;
       }
 
   -- a repeat: it was heard before
-  got-repeat : repeat before (frameOf c) ≡ true → Got n (c .to) (w .ledgers (c .to)) (frameOf c)
+  got-repeat : repeat (before .payments) (frameOf c) ≡ true → Got n (c .to) (w .ledgers (c .to)) (frameOf c)
   got-repeat e =
       split (isPropose (frameOf c))
-      (λ t. let kept : hasProposal (heldOne before (frameOf c)) (frameOf c .source .0) (frameOf c .time .0) ≡ true
-      = subst (λ b. cond b (hasProposal (heldOne before (frameOf c)) (frameOf c .source .0) (frameOf c .time .0)) (not (isWaiting (heldOne before (frameOf c)))) ≡ true) t again in
+      (λ t. let kept : hasProposal (heldOne (before .payments) (frameOf c)) (frameOf c .source .0) (frameOf c .time .0) ≡ true
+      = subst (λ b. cond b (hasProposal (heldOne (before .payments) (frameOf c)) (frameOf c .source .0) (frameOf c .time .0))
+      (not (isWaiting (heldOne (before .payments) (frameOf c)))) ≡ true) t again in
       got (frameOf c .time .0)
-      (ap (λ b. heardFrom (heldOne before (frameOf c)) (cond b (frameOf c .source .0) (c .to))) t ∙ and-left (heardFrom (heldOne before (frameOf c)) (frameOf c .source .0)) _ kept)
-      (ap (λ b. timeFrom (heldOne before (frameOf c)) (cond b (frameOf c .source .0) (c .to))) t ∙ eqb-true _ _ (and-right (heardFrom (heldOne before (frameOf c)) (frameOf c .source .0)) _ kept))
+      (ap (λ b. heardFrom (heldOne (before .payments) (frameOf c)) (cond b (frameOf c .source .0) (c .to))) t
+      ∙ and-left (heardFrom (heldOne (before .payments) (frameOf c)) (frameOf c .source .0)) _ kept)
+      (ap (λ b. timeFrom (heldOne (before .payments) (frameOf c)) (cond b (frameOf c .source .0) (c .to))) t
+      ∙ eqb-true _ _ (and-right (heardFrom (heldOne (before .payments) (frameOf c)) (frameOf c .source .0)) _ kept))
       (λ u. refl))
-      (λ t. let late : not (isWaiting (heldOne before (frameOf c))) ≡ true
-      = subst (λ b. cond b (hasProposal (heldOne before (frameOf c)) (frameOf c .source .0) (frameOf c .time .0)) (not (isWaiting (heldOne before (frameOf c)))) ≡ true) t again in
-      got (timeFrom (heldOne before (frameOf c)) (spokenBy (c .to) (frameOf c)))
-      (ap (λ b. heardFrom (heldOne before (frameOf c)) (cond b (frameOf c .source .0) (c .to))) t ∙ ap (heardFrom (heldOne before (frameOf c))) (sym (well .own)) ∙ own-heard (not-true _ late))
+      (λ t. let late : not (isWaiting (heldOne (before .payments) (frameOf c))) ≡ true
+      = subst (λ b. cond b (hasProposal (heldOne (before .payments) (frameOf c)) (frameOf c .source .0) (frameOf c .time .0))
+      (not (isWaiting (heldOne (before .payments) (frameOf c)))) ≡ true) t again in
+      got (timeFrom (heldOne (before .payments) (frameOf c)) (spokenBy (c .to) (frameOf c)))
+      (ap (λ b. heardFrom (heldOne (before .payments) (frameOf c)) (cond b (frameOf c .source .0) (c .to))) t
+      ∙ ap (heardFrom (heldOne (before .payments) (frameOf c))) (sym (well .own)) ∙ own-heard (not-true _ late))
       refl
       (λ u. both u t))
     where
-      is-held : isHeld (w .ledgers (c .to)) (frameOf c) ≡ true
-      is-held = and-left (isHeld before (frameOf c)) _ e
+      is-held : isHeld (w .ledgers (c .to) .payments) (frameOf c) ≡ true
+      is-held = and-left (isHeld (before .payments) (frameOf c)) _ e
 
-      again : cond (isPropose (frameOf c)) (hasProposal (heldOne before (frameOf c)) (frameOf c .source .0) (frameOf c .time .0)) (not (isWaiting (heldOne before (frameOf c)))) ≡ true
-      again = and-right (isHeld before (frameOf c)) _ e
+      again : cond (isPropose (frameOf c)) (hasProposal (heldOne (before .payments) (frameOf c)) (frameOf c .source .0)
+          (frameOf c .time .0)) (not (isWaiting (heldOne (before .payments) (frameOf c)))) ≡ true
+      again = and-right (isHeld (before .payments) (frameOf c)) _ e
 
-      x : Holds (w .ledgers (c .to)) (frameOf c .payment .0) (λ p. p ≡ heldOne before (frameOf c))
+      x : Holds (w .ledgers (c .to)) (frameOf c .payment .0) (λ p. p ≡ heldOne (before .payments) (frameOf c))
       x = holds-at before (well .is-sound) (frameOf c .payment .0) (number-right n table law w c may a) is-held
 
-      of-held : (g : Payment → Bool) → ((i : ℕ) → i < limit → i < before .count → g (at (before .payments) i) ≡ true) → g (heldOne before (frameOf c)) ≡ true
+      of-held : (g : Payment → Bool) → ((i : ℕ) → i < limit → i < before .count → g (at (before .payments) i) ≡ true)
+          → g (heldOne (before .payments) (frameOf c)) ≡ true
       of-held g h = ap g (sym (x .so)) ∙ h (x .at-place) (x .within) (x .used)
 
-      own-heard : isWaiting (heldOne before (frameOf c)) ≡ false → heardFrom (heldOne before (frameOf c)) (before .own .0) ≡ true
+      own-heard : isWaiting (heldOne (before .payments) (frameOf c)) ≡ false
+          → heardFrom (heldOne (before .payments) (frameOf c)) (before .own .0) ≡ true
       own-heard v =
-          past-waiting (before .own .0) (heldOne before (frameOf c))
-          (of-held (phaseRight (before .own .0)) (each-at (before .payments) (before .count) (phaseRight (before .own .0)) (clauses before (well .is-sound) .kept .phase))) v
-          (own-among (before .group) (before .own .0) (heldOne before (frameOf c) .destinations)
-          (not-true _ (of-held (lawful (before .group) (before .own .0)) (each-at (before .payments) (before .count) (lawful (before .group) (before .own .0)) (clauses before (well .is-sound) .kept .destinations)))))
+          past-waiting (before .own .0) (heldOne (before .payments) (frameOf c))
+          (of-held (phaseRight (before .own .0)) (each-at (before .payments) (before .count) (phaseRight (before .own .0))
+          (clauses before (well .is-sound) .kept .phase))) v
+          (own-among (before .group) (before .own .0) (heldOne (before .payments) (frameOf c) .destinations)
+          (not-true _ (of-held (lawful (before .group) (before .own .0))
+          (each-at (before .payments) (before .count) (lawful (before .group) (before .own .0))
+          (clauses before (well .is-sound) .kept .destinations)))))
 
-      got : (t : ℕ) → heardFrom (heldOne before (frameOf c)) (spokenBy (c .to) (frameOf c)) ≡ true → timeFrom (heldOne before (frameOf c)) (spokenBy (c .to) (frameOf c)) ≡ t
+      got : (t : ℕ) → heardFrom (heldOne (before .payments) (frameOf c)) (spokenBy (c .to) (frameOf c)) ≡ true
+          → timeFrom (heldOne (before .payments) (frameOf c)) (spokenBy (c .to) (frameOf c)) ≡ t
           → (isPropose (frameOf c) ≡ true → t ≡ frameOf c .time .0) → Got n (c .to) (w .ledgers (c .to)) (frameOf c)
       got t h q told =
           record {
@@ -115,7 +129,8 @@ module _ (n : ℕ) (table : List Entry) (law : Lawful n table) (w : World) (c : 
               used = x .used;
               number = x .number;
               so = record {
-                destinations = ap (λ p. p .destinations) (x .so) ∙ eqb-true _ _ (not-false _ (sym (and-go _ is-held) ∙ one-way n table law w c may a));
+                destinations = ap (λ p. p .destinations) (x .so)
+                    ∙ eqb-true _ _ (not-false _ (sym (and-go _ is-held) ∙ one-way n table law w c may a));
                 heard = ap (λ p. heardFrom p (spokenBy (c .to) (frameOf c))) (x .so) ∙ h;
                 time = ap (λ p. timeFrom p (spokenBy (c .to) (frameOf c))) (x .so) ∙ q;
               };

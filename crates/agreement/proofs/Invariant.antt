@@ -22,7 +22,7 @@ use Rattle.agreement.proofs.Handed.{Got, got-now}
 use Rattle.agreement.proofs.Logging.{log-stays, stays-once}
 use Rattle.agreement.proofs.Logs.{Log, Posted}
 use Rattle.agreement.proofs.Room.{Room, room-next}
-use Rattle.payment.proofs.OtherLaws.{other-destination}
+use Rattle.ledgers.proofs.OtherLaws.{other-destination}
 
 pub record Kept (n : ℕ) (table : List Entry) (w : World) : Type 0 where
   -- ledgers are sound, hold payments of the table, and have of each other only own times
@@ -68,7 +68,8 @@ module _ (n : ℕ) (table : List Entry) (law : Lawful n table) where
   pub clock-bound : (cs : List Call) → Calls n table cs → (k : ℕ) → OfGroup n k → after n cs .ledgers k .clock .0 ≤ n * limit
   clock-bound cs r k h = le-trans (kept cs r .clocks k h) (given-few n (after n cs))
 
-  answered : (cs : List Call) → Calls n table cs → (c : Call) → (m : Calls n table (c ∷ cs)) → (answer (after n cs) c ≡ 0) ⊎ (answer (after n cs) c ≡ 9)
+  answered : (cs : List Call) → Calls n table cs → (c : Call) → (m : Calls n table (c ∷ cs))
+      → (answer (after n cs) c ≡ 0) ⊎ (answer (after n cs) c ≡ 9)
   answered cs r c m =
       let k = kept cs r in
       let h = m .0 .ledger in
@@ -92,18 +93,21 @@ module _ (n : ℕ) (table : List Entry) (law : Lawful n table) where
   got (b ∷ cs) r c i =
       let a = kept cs (r .1) .agrees in
       ⊎-elim
-      (λ e. subst (λ x. Got n (x .to) (called (after n cs) b .ledgers (x .to)) (frameOf x)) (sym e) (got-now n table law (after n cs) b (r .0) a (answered cs (r .1) b r)))
+      (λ e. subst (λ x. Got n (x .to) (called (after n cs) b .ledgers (x .to)) (frameOf x)) (sym e)
+      (got-now n table law (after n cs) b (r .0) a (answered cs (r .1) b r)))
       (λ t. let g = got cs (r .1) c t in
       record {
         from = g .from;
         time = g .time;
-        heard = heard-stays (after n cs) b (a .well (b .to) (r .0 .ledger .0) (r .0 .ledger .1) .shape) (c .to) _ _ _ _ (g .from .0) (le-trans (g .from .1) (law .ledgers .1)) (g .heard);
+        heard = heard-stays (after n cs) b (a .well (b .to) (r .0 .ledger .0) (r .0 .ledger .1) .shape) (c .to) _ _ _ _ (g .from .0)
+            (le-trans (g .from .1) (law .ledgers .1)) (g .heard);
         told = g .told;
       })
       i
 
   -- an own time was asked for: a MULTICAST copy of the payment was handed in
-  pub asked : (cs : List Call) → Calls n table cs → (k m d t : ℕ) → OfGroup n k → Heard (after n cs .ledgers k) m d k t → HandedIn (multicastCopy (entryOf m d)) k cs
+  pub asked : (cs : List Call) → Calls n table cs → (k m d t : ℕ) → OfGroup n k → Heard (after n cs .ledgers k) m d k t
+      → HandedIn (multicastCopy (entryOf m d)) k cs
   unfolding after
   asked [] r k m d t h = λ x. absurd (nothing-held n table law k m (HeardTime d k t) (h .0) (h .1) x)
   asked (c ∷ cs) r k m d t h =
@@ -111,7 +115,8 @@ module _ (n : ℕ) (table : List Entry) (law : Lawful n table) where
       let well = a .well (c .to) (r .0 .ledger .0) (r .0 .ledger .1) in
       by-call (after n cs) c (λ l. Heard l m d k t → HandedIn (multicastCopy (entryOf m d)) k (c ∷ cs)) (well .shape) k
       (λ x. before (asked cs (r .1) k m d t h x))
-      (λ e u v x. heard-from (after n cs .ledgers (c .to)) (frameOf c) (u .is-sound) (well .shape) (u .unrefused) (called (after n cs) c .ledgers (c .to)) v
+      (λ e u v x. heard-from (after n cs .ledgers (c .to)) (frameOf c) (u .is-sound) (well .shape) (u .unrefused)
+      (called (after n cs) c .ledgers (c .to)) v
       (HandedIn (multicastCopy (entryOf m d)) k (c ∷ cs)) m d k t (h .0) (le-trans (h .1) (law .ledgers .1)) x
       (λ old. before (asked cs (r .1) k m d t h (subst (λ j. Heard (after n cs .ledgers j) m d k t) (sym e) old)))
       (λ em ed es et. ⊎-elim
@@ -123,8 +128,10 @@ module _ (n : ℕ) (table : List Entry) (law : Lawful n table) where
         bytes = o .frame ∙ ap multicastCopy (ap₂ entryOf (sym (em ∙ ap (λ z. z .payment .0) f)) (sym (ed ∙ ap (λ z. z .destinations) f)));
       })
       (λ o. let f = from-ledger n table law (after n cs) c (a .copied) o in
-      absurd (other-destination (f .sent .entry .destinations) (f .sent .writer) (c .to) (in-byte n table law (f .sent .entry) (f .sent .in-table)) (f .sent .from .0) (le-trans (f .sent .from .1) (law .ledgers .1))
-      (le-trans (r .0 .ledger .1) (law .ledgers .1)) (f .recipient) .0 (sym e ∙ es ∙ ap (speaker (after n cs .ledgers (c .to))) (f .frame))))
+      absurd (other-destination (f .sent .entry .destinations) (f .sent .writer) (c .to)
+      (in-byte n table law (f .sent .entry) (f .sent .in-table)) (f .sent .from .0) (le-trans (f .sent .from .1) (law .ledgers .1))
+      (le-trans (r .0 .ledger .1) (law .ledgers .1)) (f .recipient) .0
+      (sym e ∙ es ∙ ap (speaker (after n cs .ledgers (c .to))) (f .frame))))
       (r .0 .copy)))
     where
       before : {x : List ℕ} → HandedIn x k cs → HandedIn x k (c ∷ cs)
@@ -136,7 +143,8 @@ module _ (n : ℕ) (table : List Entry) (law : Lawful n table) where
   stays-always cs [] r k = record { stamps = λ m s x. x; added = []; log = sym (append-nil (after n cs .logs k)) }
   stays-always cs (d ∷ ds) r k =
       let so-far = stays-always cs ds (r .1) k in
-      let once = stays-once (after n (ds ++ cs)) d (kept (ds ++ cs) (r .1) .agrees .well (d .to) (r .0 .ledger .0) (r .0 .ledger .1) .shape) k in
+      let once = stays-once (after n (ds ++ cs)) d (kept (ds ++ cs) (r .1) .agrees .well (d .to) (r .0 .ledger .0)
+      (r .0 .ledger .1) .shape) k in
       record {
         stamps = λ m s x. once .stamps m s (so-far .stamps m s x);
         added = so-far .added ++ once .added;

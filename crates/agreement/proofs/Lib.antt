@@ -23,3 +23,4 @@ pub mod Full
 pub mod Completion
 pub mod Theorem
 pub mod Sources
+pub mod Few

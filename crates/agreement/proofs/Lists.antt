@@ -7,7 +7,8 @@ use mathlib.Core.Bool.{Bool, true}
 use mathlib.Core.Logic.{_⊎_, inl, inr, ⊎-elim}
 use Rattle.common.specs.Places.{In}
 use Rattle.common.proofs.MemberLaws.{in-append}
-use Rattle.soundness.proofs.Rising.{Rising, all-has}
+use Rattle.common.specs.Order.{Rising}
+use Rattle.common.proofs.RisingLaws.{all-has}
 use Rattle.agreement.specs.Claims.{Precedes}
 
 pub precedes-append : (x y : ℕ) (xs ys : List ℕ) → Precedes x y (xs ++ ys) → Precedes x y xs ⊎ ((In x xs × In y ys) ⊎ Precedes x y ys)

@@ -8,18 +8,19 @@ use mathlib.Core.Logic.{_⊎_, ⊎-elim}
 use borrow.Author.Tests.{eq-eqb}
 use Rattle.common.specs.Places.{In}
 use Rattle.common.proofs.TestLaws.{both, or-true, split}
-use Rattle.payment.specs.Payments.{hasStamp, isPosted, isStamped, stampOf}
+use Rattle.payment.specs.Payments.{hasStamp, inPhase, isPosted, isStamped, posted, stampOf}
 use Rattle.payment.specs.Stamps.{below}
 use Rattle.payment.specs.declared.Payment.{Payment}
 use Rattle.held.specs.Held.{at, limit}
-use Rattle.held.specs.Posting.{before, isFree, nowPosted, numbers, toPost}
-use Rattle.held.proofs.FreeLaws.{behind-stamped}
-use Rattle.held.proofs.PostLaws.{free-stamped}
-use Rattle.held.proofs.ReflectLaws.{posted-at}
-use Rattle.ledger.specs.Refusals.{firstGiven, judged}
+use Rattle.posting.specs.Posting.{before, isFree, numbers, toPost}
+use Rattle.checked.proofs.AfterLaws.{after-stamped}
+use Rattle.posting.proofs.PostLaws.{free-stamped}
+use Rattle.checked.proofs.ReflectLaws.{posted-at}
+use Rattle.refusals.specs.Refusals.{firstGiven}
+use Rattle.ledger.specs.Table.{valueRows}
 use Rattle.ledger.specs.Sound.{sound}
 use Rattle.ledger.specs.Step.{afterStamping, placeFor}
-use Rattle.ledger.specs.declared.Incoming.{Incoming}
+use Rattle.refusals.specs.declared.Incoming.{Incoming}
 use Rattle.ledger.specs.declared.Ledger.{Ledger}
 use Rattle.ledger.proofs.SoundLaws.{Almost, clauses}
 use Rattle.soundness.specs.Shaped.{Shaped}
@@ -27,7 +28,7 @@ use Rattle.soundness.proofs.Accepted.{accepted}
 use Rattle.soundness.proofs.Bringing.{own-range}
 use Rattle.soundness.proofs.Kept.{heard-almost, posted-ledger}
 use Rattle.soundness.proofs.Postings.{posting-all, posting-free, posting-rising, stamped-held}
-use Rattle.soundness.proofs.Rising.{all-has}
+use Rattle.common.proofs.RisingLaws.{all-has}
 use Rattle.soundness.proofs.Taking.{place-others}
 use Rattle.agreement.specs.Claims.{Earlier, Holds, Precedes, HasStamp, WithStamp}
 use Rattle.agreement.proofs.View.{posted-place}
@@ -50,7 +51,7 @@ pub record Log (l : Ledger) (log : List ℕ) : Type 0 where
 pub posted-stamp : (p : Payment) → isPosted p ≡ true → hasStamp p ≡ true
 posted-stamp p e = ap (λ b. isStamped p || b) e ∙ or-true (isStamped p)
 
-module _ (l : Ledger) (f : Incoming) (is-sound : sound l ≡ true) (shape : Shaped l) (e : firstGiven (judged l f) ≡ 0) where
+module _ (l : Ledger) (f : Incoming) (is-sound : sound l ≡ true) (shape : Shaped l) (e : firstGiven (valueRows l f) ≡ 0) where
   abbrev mid : Ledger
   mid = afterStamping l f
 
@@ -64,15 +65,17 @@ module _ (l : Ledger) (f : Incoming) (is-sound : sound l ≡ true) (shape : Shap
   almost = heard-almost l f is-sound shape e
 
   -- what is so of a payment whether or not it is posted now
-  next-at : (P : Payment → Type 0) (i : ℕ) → i < limit → (free i ≡ true → P (nowPosted (at (mid .payments) i))) → (free i ≡ false → P (at (mid .payments) i)) → P (at (next .payments) i)
+  next-at : (P : Payment → Type 0) (i : ℕ) → i < limit → (free i ≡ true → P (inPhase posted (at (mid .payments) i)))
+      → (free i ≡ false → P (at (mid .payments) i)) → P (at (next .payments) i)
   next-at P i h now not =
       subst P (sym (posted-place (afterStamping l f) i h))
       (split (free i)
-      (λ t. subst (λ b. P (cond b (nowPosted (at (mid .payments) i)) (at (mid .payments) i))) (sym t) (now t))
-      (λ t. subst (λ b. P (cond b (nowPosted (at (mid .payments) i)) (at (mid .payments) i))) (sym t) (not t)))
+      (λ t. subst (λ b. P (cond b (inPhase posted (at (mid .payments) i)) (at (mid .payments) i))) (sym t) (now t))
+      (λ t. subst (λ b. P (cond b (inPhase posted (at (mid .payments) i)) (at (mid .payments) i))) (sym t) (not t)))
 
   -- a payment that rules 1 to 3 left at place i
-  holds-next : (P : Payment → Type 0) (i : ℕ) → i < limit → i < mid .count → (free i ≡ true → P (nowPosted (at (mid .payments) i))) → (free i ≡ false → P (at (mid .payments) i))
+  holds-next : (P : Payment → Type 0) (i : ℕ) → i < limit → i < mid .count → (free i ≡ true → P (inPhase posted (at (mid .payments) i)))
+      → (free i ≡ false → P (at (mid .payments) i))
       → Holds (posted-ledger (afterStamping l f)) (at (mid .payments) i .number .0) P
   holds-next P i h u now not =
       record {
@@ -100,7 +103,8 @@ module _ (l : Ledger) (f : Incoming) (is-sound : sound l ≡ true) (shape : Shap
 
   free-in : (i : ℕ) → In i (toPost (mid .payments) (mid .own .0)) → Free i
   free-in i h =
-      let r = all-has (λ j. (j < limit) × (free j ≡ true)) (toPost (mid .payments) (mid .own .0)) (posting-free (mid .payments) (mid .own .0)) i h in
+      let r = all-has (λ j. (j < limit) × (free j ≡ true)) (toPost (mid .payments) (mid .own .0))
+      (posting-free (mid .payments) (mid .own .0)) i h in
       let two = free-stamped (mid .payments) (mid .own .0) i (r .1) in
       record {
         within = r .0;
@@ -116,7 +120,8 @@ module _ (l : Ledger) (f : Incoming) (is-sound : sound l ≡ true) (shape : Shap
         (λ old. let x = g .posted m old in
         let o = was-posted (x .at-place) (x .used) (x .so) in
         subst (λ n. Holds (posted-ledger (afterStamping l f)) n Posted) (ap (λ p. p .number .0) o ∙ x .number)
-        (holds-next Posted (x .at-place) (x .within) (still-used l f is-sound shape e (x .at-place) (x .used)) (λ t. refl) (λ t. ap isPosted o ∙ x .so)))
+        (holds-next Posted (x .at-place) (x .within) (still-used l f is-sound shape e (x .at-place) (x .used)) (λ t. refl)
+        (λ t. ap isPosted o ∙ x .so)))
         (λ new. let r = in-map (λ i. at (mid .payments) i .number .0) m (toPost (mid .payments) (mid .own .0)) new in
         let x = free-in (r .0) (r .1) in
         subst (λ n. Holds (posted-ledger (afterStamping l f)) n Posted) (sym (r .2))
@@ -130,14 +135,18 @@ module _ (l : Ledger) (f : Incoming) (is-sound : sound l ≡ true) (shape : Shap
         split (free i)
         (λ t. in-right m log (numbers (mid .payments) (mid .own .0))
         (subst (λ n. In n (numbers (mid .payments) (mid .own .0))) named
-        (map-in (λ i. at (mid .payments) i .number .0) i (toPost (mid .payments) (mid .own .0)) (posting-all (mid .payments) (mid .own .0) i (x .within) t))))
-        (λ t. let old = next-at (λ p. isPosted p ≡ true → isPosted (at (mid .payments) i) ≡ true) i (x .within) (λ u. both u t) (λ u q. q) (x .so) in
-        let other : i ≡ placeFor l f → ⊥ = λ q. both old (ap (λ j. isPosted (at (mid .payments) j)) q ∙ unposted-now l f is-sound shape e) in
+        (map-in (λ i. at (mid .payments) i .number .0) i (toPost (mid .payments) (mid .own .0))
+        (posting-all (mid .payments) (mid .own .0) i (x .within) t))))
+        (λ t. let old = next-at (λ p. isPosted p ≡ true → isPosted (at (mid .payments) i) ≡ true) i (x .within) (λ u. both u t)
+        (λ u q. q) (x .so) in
+        let other : i ≡ placeFor l f → ⊥ = λ q. both old (ap (λ j. isPosted (at (mid .payments) j)) q
+        ∙ unposted-now l f is-sound shape e) in
         let o = others-stay l f is-sound shape e i other in
         in-left m log (numbers (mid .payments) (mid .own .0)) (g .complete m record {
           at-place = i;
           within = x .within;
-          used = place-others l (clauses l is-sound .kept) shape f (accepted l f e) i (subst (λ c. i < c) (same-count l f is-sound shape e) (x .used)) other;
+          used = place-others l (clauses l is-sound .kept) shape f (accepted l f e) i
+              (subst (λ c. i < c) (same-count l f is-sound shape e) (x .used)) other;
           number = ap (λ p. p .number .0) (sym o) ∙ named;
           so = ap isPosted (sym o) ∙ old;
         }))
@@ -157,15 +166,19 @@ module _ (l : Ledger) (f : Incoming) (is-sound : sound l ≡ true) (shape : Shap
         (precedes-append x y log (numbers (mid .payments) (mid .own .0)) h)
       where
         -- two places that rules 1 to 3 left stamped
-        of-places : (i j : ℕ) → i < limit → j < limit → i < mid .count → j < mid .count → hasStamp (at (mid .payments) i) ≡ true → hasStamp (at (mid .payments) j) ≡ true
-            → below (stampOf (at (mid .payments) i)) (stampOf (at (mid .payments) j)) ≡ true → x ≡ at (mid .payments) i .number .0 → y ≡ at (mid .payments) j .number .0
+        of-places : (i j : ℕ) → i < limit → j < limit → i < mid .count → j < mid .count → hasStamp (at (mid .payments) i) ≡ true
+            → hasStamp (at (mid .payments) j) ≡ true
+            → below (stampOf (at (mid .payments) i)) (stampOf (at (mid .payments) j)) ≡ true → x ≡ at (mid .payments) i .number .0
+            → y ≡ at (mid .payments) j .number .0
             → Earlier (posted-ledger (afterStamping l f)) x y
         of-places i j hi hj ui uj si sj b ex ey =
             record {
               first = stampOf (at (mid .payments) i);
               second = stampOf (at (mid .payments) j);
-              of-first = subst (λ n. HasStamp (posted-ledger (afterStamping l f)) n (stampOf (at (mid .payments) i))) (sym ex) (stamped-next i hi ui si);
-              of-second = subst (λ n. HasStamp (posted-ledger (afterStamping l f)) n (stampOf (at (mid .payments) j))) (sym ey) (stamped-next j hj uj sj);
+              of-first = subst (λ n. HasStamp (posted-ledger (afterStamping l f)) n (stampOf (at (mid .payments) i))) (sym ex)
+                  (stamped-next i hi ui si);
+              of-second = subst (λ n. HasStamp (posted-ledger (afterStamping l f)) n (stampOf (at (mid .payments) j))) (sym ey)
+                  (stamped-next j hj uj sj);
               below-it = b;
             }
 
@@ -179,7 +192,8 @@ module _ (l : Ledger) (f : Incoming) (is-sound : sound l ≡ true) (shape : Shap
             let done = ap isPosted o ∙ p .so in
             of-places (p .at-place) (r .0) (p .within) (q .within) (still-used l f is-sound shape e (p .at-place) (p .used)) (q .used)
             (posted-stamp (at (mid .payments) (p .at-place)) done) (q .stamped)
-            (sym (behind-stamped (mid .own .0) (stampOf (at (mid .payments) (p .at-place))) (at (mid .payments) (r .0)) (free-stamped (mid .payments) (mid .own .0) (r .0) (q .is-free)))
+            (sym (after-stamped (mid .own .0) (stampOf (at (mid .payments) (p .at-place))) (at (mid .payments) (r .0))
+            (free-stamped (mid .payments) (mid .own .0) (r .0) (q .is-free)))
             ∙ posted-at (mid .payments) (mid .own .0) (almost .posted) (p .at-place) (r .0) (p .within) (q .within) done)
             (sym (p .number) ∙ ap (λ z. z .number .0) (sym o)) (r .2)
 

@@ -1,5 +1,6 @@
 -- The order of postings: one at every ledger, and without gaps.
 -- Assumes nothing.
+use Rattle.common.proofs.PlaceLaws.{by-place}
 use Prim.Native.Nat.{ℕ, _<_, _≤_}
 use mathlib.Core.Path.{_≡_, refl, ap, sym, _∙_, subst}
 use mathlib.Core.List.{List}
@@ -9,17 +10,16 @@ use native.Mathlib.Omega.{arith}
 use borrow.Author.Tests.{eqb-false, eqb-true, ltb-true}
 use Rattle.common.specs.Places.{In}
 use Rattle.common.proofs.TestLaws.{both, or-cases, split}
-use Rattle.payment.specs.Ledgers.{has}
+use Rattle.ledgers.specs.Ledgers.{has}
 use Rattle.payment.specs.Payments.{hasStamp, heardFrom, isPosted, isProposed, isStamped, isWaiting, stampOf, timeFrom}
-use Rattle.payment.specs.Right.{phaseRight}
+use Rattle.right.specs.Right.{phaseRight}
 use Rattle.payment.specs.Stamps.{below}
 use Rattle.payment.specs.declared.Stamp.{Stamp}
-use Rattle.payment.proofs.RightLaws.{later-none, waiting-own}
+use Rattle.right.proofs.RightLaws.{later-none, waiting-own}
 use Rattle.held.specs.Held.{at}
-use Rattle.held.proofs.FreeLaws.{behind-proposed, behind-stamped}
-use Rattle.held.proofs.ReflectLaws.{each-at, posted-at}
+use Rattle.checked.proofs.AfterLaws.{after-proposed, after-stamped}
+use Rattle.checked.proofs.ReflectLaws.{each-at, posted-at}
 use Rattle.ledger.proofs.SoundLaws.{clauses}
-use Rattle.soundness.proofs.Replacing.{by-place}
 use Rattle.agreement.specs.Run.{Entry, Lawful, World}
 use Rattle.agreement.specs.Claims.{Addressed, Earlier, HasStamp, OfGroup, Precedes, WithStamp}
 use Rattle.agreement.proofs.Agreed.{entryOf}
@@ -47,7 +47,8 @@ module _ (n : ℕ) (table : List Entry) (law : Lawful n table) (w : World) (k : 
   pub never-twice : (j x : ℕ) → OfGroup n j → Precedes x x (w .logs j) → ⊥
   never-twice j x h p = not-both j j x x h h (earlier j x x h p) (earlier j x x h p)
 
-  pub same-order : (i j x y : ℕ) → OfGroup n i → OfGroup n j → Precedes x y (w .logs i) → In x (w .logs j) → In y (w .logs j) → Precedes x y (w .logs j)
+  pub same-order : (i j x y : ℕ) → OfGroup n i → OfGroup n j → Precedes x y (w .logs i) → In x (w .logs j) → In y (w .logs j)
+      → Precedes x y (w .logs j)
   same-order i j x y hi hj p inx iny =
       by-place x y
       (λ e. absurd (never-twice i x hi (subst (λ z. Precedes x z (w .logs i)) (sym e) p)))
@@ -61,17 +62,21 @@ module _ (n : ℕ) (table : List Entry) (law : Lawful n table) (w : World) (k : 
   own-of j b x s hj hb e u =
       let p = at (w .ledgers j .payments) (u .at-place) in
       let same : entryOf x (p .destinations) ≡ e .entry
-      = one-entry n table law _ (e .entry) (k .agrees .listed j x _ (hj .0) (hj .1) (goes-here n table law w (k .agrees) j x s hj u)) (e .in-table) (sym (e .number)) in
-      let is-heard : heardFrom p b ≡ true = ap (λ z. has z b) (all-here n table law w (k .agrees) j x s hj u) ∙ ap (λ z. has (z .destinations) b) same ∙ e .destination in
+      = one-entry n table law _ (e .entry) (k .agrees .listed j x _ (hj .0) (hj .1) (goes-here n table law w (k .agrees) j x s hj u))
+      (e .in-table) (sym (e .number)) in
+      let is-heard : heardFrom p b ≡ true = ap (λ z. has z b) (all-here n table law w (k .agrees) j x s hj u)
+      ∙ ap (λ z. has (z .destinations) b) same ∙ e .destination in
       let there = time-here n table law w (k .agrees) j x s hj u b is-heard in (
         p .destinations,
         timeFrom p b,
         k .agrees .agreed j b x _ _ (hj .0) (hj .1) (hb .0) (hb .1) there,
-        subst (λ r. timeFrom p b ≤ r .time .0) (u .so .1) (proposal-early p b (hb .0) (let few = law .ledgers .1 in let last = hb .1 in omega arith) is-heard),
+        subst (λ r. timeFrom p b ≤ r .time .0) (u .so .1) (proposal-early p b (hb .0)
+            (let few = law .ledgers .1 in let last = hb .1 in omega arith) is-heard),
       )
 
   -- what is below a posted stamp, and is for this ledger, is posted
-  posted-before : (j b x y : ℕ) (s r : Stamp) → OfGroup n j → OfGroup n b → Addressed table b x → HasStamp (w .ledgers j) x s → In y (w .logs b)
+  posted-before : (j b x y : ℕ) (s r : Stamp) → OfGroup n j → OfGroup n b → Addressed table b x → HasStamp (w .ledgers j) x s
+      → In y (w .logs b)
       → HasStamp (w .ledgers b) y r → below s r ≡ true → In x (w .logs b)
   posted-before j b x y s r hj hb e u iny v lt =
       let l = w .ledgers b in
@@ -89,22 +94,32 @@ module _ (n : ℕ) (table : List Entry) (law : Lawful n table) (w : World) (k : 
       split (isWaiting p)
       (λ t. both phase-right (waiting-own (l .own .0) p (eqb-true _ _ t) own-heard))
       (λ t. split (isProposed p)
-      (λ q. let late = ltb-true _ _ (sym (behind-proposed (l .own .0) (stampOf (at (l .payments) (y-at .at-place))) p (eqb-true _ _ q)) ∙ after-y) in
-      let late′ : r .time .0 < own .1 = subst (λ f. f .time .0 < own .1) y-stamp (subst (λ h. stampOf (at (l .payments) (y-at .at-place)) .time .0 < h) (ap (timeFrom p) (well .own) ∙ z .so .time) late) in
+      (λ q. let late = ltb-true _ _ (sym (after-proposed (l .own .0) (stampOf (at (l .payments) (y-at .at-place))) p (eqb-true _ _ q))
+      ∙ after-y) in
+      let late′ : r .time .0 < own .1 = subst (λ f. f .time .0 < own .1) y-stamp
+      (subst (λ h. stampOf (at (l .payments) (y-at .at-place)) .time .0 < h) (ap (timeFrom p) (well .own) ∙ z .so .time) late) in
       let early = own .3 in
       let not-later = below-not-later s r lt in
       absurd (omega (arith, late′, early, not-later)))
       (λ q. split (hasStamp p)
       (λ a. ⊎-elim
-      (λ two. let x-here : HasStamp (w .ledgers b) x (stampOf p) = record { at-place = i; within = z .within; used = z .used; number = z .number; so = (a, refl) } in
+      (λ two. let x-here : HasStamp (w .ledgers b) x (stampOf p) = record {
+        at-place = i;
+        within = z .within;
+        used = z .used;
+        number = z .number;
+        so = (a, refl);
+      } in
       let same = one-stamp n table law w (k .agrees) j b x s (stampOf p) hj hb u x-here in
-      let over = sym (behind-stamped (l .own .0) (stampOf (at (l .payments) (y-at .at-place))) p (eqb-true _ _ two)) ∙ after-y in
-      absurd (below-once s r lt (subst (λ f. below f s ≡ true) y-stamp (subst (λ f. below (stampOf (at (l .payments) (y-at .at-place))) f ≡ true) (sym same) over))))
+      let over = sym (after-stamped (l .own .0) (stampOf (at (l .payments) (y-at .at-place))) p (eqb-true _ _ two)) ∙ after-y in
+      absurd (below-once s r lt (subst (λ f. below f s ≡ true) y-stamp
+      (subst (λ f. below (stampOf (at (l .payments) (y-at .at-place))) f ≡ true) (sym same) over))))
       (λ three. k .logs b hb .complete x (record { at-place = i; within = z .within; used = z .used; number = z .number; so = three }))
       (or-cases (isStamped p) (isPosted p) a))
       (λ a. both phase-right (later-none (l .own .0) p (eqb-false _ _ t) (eqb-false _ _ q) a))))
 
-  pub no-gaps : (j b x y : ℕ) (s r : Stamp) → OfGroup n j → OfGroup n b → Addressed table b x → HasStamp (w .ledgers j) x s → In y (w .logs b)
+  pub no-gaps : (j b x y : ℕ) (s r : Stamp) → OfGroup n j → OfGroup n b → Addressed table b x → HasStamp (w .ledgers j) x s
+      → In y (w .logs b)
       → HasStamp (w .ledgers b) y r → below s r ≡ true → Precedes x y (w .logs b)
   no-gaps j b x y s r hj hb e u iny v lt =
       by-place x y

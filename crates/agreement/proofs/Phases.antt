@@ -9,15 +9,16 @@ use lib.ListN.{length}
 use lib.Seq.{getD-set-other, getD-set-same}
 use borrow.Author.Tests.{ne-eqb}
 use Rattle.common.proofs.TestLaws.{both, split}
-use Rattle.payment.specs.Payments.{allHeard, hasStamp, isPosted}
+use Rattle.payment.specs.Payments.{allHeard, hasStamp, inPhase, isPosted, posted}
 use Rattle.payment.specs.declared.Payment.{Payment}
 use Rattle.payment.specs.declared.Stamp.{Stamp}
 use Rattle.held.specs.Held.{at, noPayment}
-use Rattle.held.specs.Posting.{isFree, nowPosted}
-use Rattle.ledger.specs.Refusals.{firstGiven, judged}
+use Rattle.posting.specs.Posting.{isFree}
+use Rattle.refusals.specs.Refusals.{firstGiven}
+use Rattle.ledger.specs.Table.{valueRows}
 use Rattle.ledger.specs.Sound.{sound}
-use Rattle.ledger.specs.Step.{afterStamping, countFor, inPhase, paymentFor, placeFor}
-use Rattle.ledger.specs.declared.Incoming.{Incoming}
+use Rattle.ledger.specs.Step.{afterStamping, countFor, paymentFor, placeFor}
+use Rattle.refusals.specs.declared.Incoming.{Incoming}
 use Rattle.ledger.specs.declared.Ledger.{Ledger}
 use Rattle.ledger.proofs.JudgeLaws.{place-range}
 use Rattle.ledger.proofs.SoundLaws.{clauses}
@@ -33,7 +34,7 @@ use Rattle.agreement.proofs.Hearing.{is-payment}
 early : (p : Payment) → p .phase ≤ 1 → hasStamp p ≡ false
 early p h = ap₂ _||_ (ne-eqb (p .phase) 2 (λ z. omega (arith, h, z))) (ne-eqb (p .phase) 3 (λ z. omega (arith, h, z)))
 
-module _ (l : Ledger) (f : Incoming) (is-sound : sound l ≡ true) (shape : Shaped l) (e : firstGiven (judged l f) ≡ 0) where
+module _ (l : Ledger) (f : Incoming) (is-sound : sound l ≡ true) (shape : Shaped l) (e : firstGiven (valueRows l f) ≡ 0) where
   inside : placeFor l f < length (l .payments)
   inside = subst (λ n. placeFor l f < n) (sym (shape .places)) (place-range l f is-sound e)
 
@@ -41,14 +42,18 @@ module _ (l : Ledger) (f : Incoming) (is-sound : sound l ≡ true) (shape : Shap
   pub others-stay : (i : ℕ) → (i ≡ placeFor l f → ⊥) → at (afterStamping l f .payments) i ≡ at (l .payments) i
   others-stay i n =
       split (allHeard (heardPayment l f))
-      (λ t. ap (λ m. at (m .payments) i) (heardOf-stamped l f inside t) ∙ getD-set-other (l .payments) (placeFor l f) i (inPhase 2 (heardPayment l f)) noPayment n)
-      (λ t. ap (λ m. at (m .payments) i) (heardOf-open l f inside t) ∙ getD-set-other (l .payments) (placeFor l f) i (heardPayment l f) noPayment n)
+      (λ t. ap (λ m. at (m .payments) i) (heardOf-stamped l f inside t)
+      ∙ getD-set-other (l .payments) (placeFor l f) i (inPhase 2 (heardPayment l f)) noPayment n)
+      (λ t. ap (λ m. at (m .payments) i) (heardOf-open l f inside t)
+      ∙ getD-set-other (l .payments) (placeFor l f) i (heardPayment l f) noPayment n)
 
   pub same-count : afterStamping l f .count ≡ countFor l f
-  same-count = split (allHeard (heardPayment l f)) (λ t. ap (λ m. m .count) (heardOf-stamped l f inside t)) (λ t. ap (λ m. m .count) (heardOf-open l f inside t))
+  same-count = split (allHeard (heardPayment l f)) (λ t. ap (λ m. m .count) (heardOf-stamped l f inside t))
+      (λ t. ap (λ m. m .count) (heardOf-open l f inside t))
 
   pub same-own : afterStamping l f .own ≡ l .own
-  same-own = split (allHeard (heardPayment l f)) (λ t. ap (λ m. m .own) (heardOf-stamped l f inside t)) (λ t. ap (λ m. m .own) (heardOf-open l f inside t))
+  same-own = split (allHeard (heardPayment l f)) (λ t. ap (λ m. m .own) (heardOf-stamped l f inside t))
+      (λ t. ap (λ m. m .own) (heardOf-open l f inside t))
 
   -- the frame's payment had no stamp
   pub unstamped-before : (i : ℕ) → i < l .count → hasStamp (at (l .payments) i) ≡ true → i ≡ placeFor l f → ⊥
@@ -83,10 +88,12 @@ module _ (l : Ledger) (f : Incoming) (is-sound : sound l ≡ true) (shape : Shap
   pub stamp-stays : (m : ℕ) (s : Stamp) → HasStamp l m s → HasStamp (posted-ledger (afterStamping l f)) m s
   stamp-stays m s x =
       let o = others-stay (x .at-place) (unstamped-before (x .at-place) (x .used) (x .so .0)) in
-      let was : (at (afterStamping l f .payments) (x .at-place) .number .0 ≡ m) × WithStamp s (at (afterStamping l f .payments) (x .at-place))
+      let was : (at (afterStamping l f .payments) (x .at-place) .number .0 ≡ m)
+      × WithStamp s (at (afterStamping l f .payments) (x .at-place))
       = subst (λ p. (p .number .0 ≡ m) × WithStamp s p) (sym o) (x .number, x .so) in
       let now = subst (λ p. (p .number .0 ≡ m) × WithStamp s p) (sym (posted-place (afterStamping l f) (x .at-place) (x .within)))
-      (either (isFree (afterStamping l f .payments) (afterStamping l f .own .0) (x .at-place)) (at (afterStamping l f .payments) (x .at-place)) was) in
+      (either (isFree (afterStamping l f .payments) (afterStamping l f .own .0) (x .at-place))
+      (at (afterStamping l f .payments) (x .at-place)) was) in
       record {
         at-place = x .at-place;
         within = x .within;
@@ -95,6 +102,7 @@ module _ (l : Ledger) (f : Incoming) (is-sound : sound l ≡ true) (shape : Shap
         so = now .1;
       }
     where
-      either : (b : Bool) (p : Payment) → (p .number .0 ≡ m) × WithStamp s p → (cond b (nowPosted p) p .number .0 ≡ m) × WithStamp s (cond b (nowPosted p) p)
+      either : (b : Bool) (p : Payment) → (p .number .0 ≡ m) × WithStamp s p → (cond b (inPhase posted p) p .number .0 ≡ m)
+          × WithStamp s (cond b (inPhase posted p) p)
       either true p h = (h .0, (refl, h .1 .1))
       either false p h = h

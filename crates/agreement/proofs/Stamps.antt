@@ -1,26 +1,26 @@
 -- One stamp per payment wherever it is stamped, and no two alike.
 -- Assumes nothing.
+use Rattle.common.proofs.PlaceLaws.{by-place}
 use Prim.Native.Nat.{ℕ, zero, suc, _-_, _<_, _≤_}
 use mathlib.Core.Path.{_≡_, refl, ap, sym, _∙_, subst}
 use mathlib.Core.List.{List}
 use mathlib.Core.Bool.{true}
 use native.Mathlib.Omega.{arith}
 use borrow.Author.Tests.{not-true}
-use Rattle.payment.specs.Ledgers.{has, mostLedgers}
+use Rattle.ledgers.specs.Ledgers.{has, mostLedgers}
 use Rattle.payment.specs.Payments.{greatest, heardFrom, stampOf, timeFrom}
-use Rattle.payment.specs.Right.{lawful, phaseRight}
+use Rattle.right.specs.Right.{lawful, phaseRight}
 use Rattle.payment.specs.declared.Payment.{Payment}
 use Rattle.payment.specs.declared.Stamp.{Stamp}
 use Rattle.payment.proofs.KeptLaws.{greatest-proposed}
-use Rattle.payment.proofs.LedgerLaws.{place}
+use Rattle.ledgers.proofs.LedgerLaws.{place}
 use Rattle.held.specs.Held.{at, limit}
-use Rattle.held.proofs.ReflectLaws.{each-at}
+use Rattle.checked.proofs.ReflectLaws.{each-at}
 use Rattle.ledger.specs.declared.Ledger.{Ledger}
 use Rattle.ledger.proofs.SoundLaws.{clauses}
 use Rattle.ledger.specs.Sound.{sound}
 use Rattle.soundness.proofs.Accepted.{apart-pairs}
 use Rattle.soundness.proofs.Postings.{stamp-some}
-use Rattle.soundness.proofs.Replacing.{by-place}
 use Rattle.soundness.proofs.Taking.{own-among}
 use Rattle.agreement.specs.Run.{Entry, Lawful, World}
 use Rattle.agreement.specs.Claims.{Holds, OfGroup, HasStamp}
@@ -28,21 +28,24 @@ use Rattle.agreement.proofs.Hearing.{Heard, HeardTime, at-one-place}
 use Rattle.agreement.proofs.Calls.{Well}
 use Rattle.agreement.proofs.Entries.{in-group, one-entry}
 use Rattle.agreement.proofs.Agreed.{Agrees, Goes, entryOf}
-use Rattle.payment.proofs.RightLaws.{stamp-all}
+use Rattle.right.proofs.RightLaws.{stamp-all}
 use Rattle.payment.proofs.GreatestLaws.{greatest-same}
 
 -- one ledger's own times differ between payments
-pub own-times-differ : (l : Ledger) → sound l ≡ true → (x y d g q t : ℕ) → 1 ≤ q → q ≤ mostLedgers → Heard l x d q t → Heard l y g q t → x ≡ y
+pub own-times-differ : (l : Ledger) → sound l ≡ true → (x y d g q t : ℕ) → 1 ≤ q → q ≤ mostLedgers → Heard l x d q t → Heard l y g q t
+    → x ≡ y
 own-times-differ l s x y d g zero t h₁ h₈ u v = absurd (omega arith)
 own-times-differ l s x y d g (suc k) t h₁ h₈ u v =
     by-place (u .at-place) (v .at-place)
     (λ e. sym (u .number) ∙ ap (λ i. at (l .payments) i .number .0) e ∙ v .number)
-    (λ o. absurd (apart-pairs l (clauses l s .kept) (u .at-place) (v .at-place) (u .within) (v .within) (u .used) (v .used) o k (omega arith)
+    (λ o. absurd (apart-pairs l (clauses l s .kept) (u .at-place) (v .at-place) (u .within) (v .within) (u .used) (v .used) o k
+    (omega arith)
     (u .so .heard) (v .so .heard) (u .so .time ∙ sym (v .so .time))))
 
 module _ (n : ℕ) (table : List Entry) (law : Lawful n table) (w : World) (a : Agrees n table w) where
   -- what ledgers have heard of one ledger for one payment is one time
-  pub one-time : (j k m d g q t u : ℕ) → OfGroup n j → OfGroup n k → OfGroup n q → Heard (w .ledgers j) m d q t → Heard (w .ledgers k) m g q u → t ≡ u
+  pub one-time : (j k m d g q t u : ℕ) → OfGroup n j → OfGroup n k → OfGroup n q → Heard (w .ledgers j) m d q t
+      → Heard (w .ledgers k) m g q u → t ≡ u
   one-time j k m d g q t u hj hk hq x y =
       let mine = a .agreed j q m d t (hj .0) (hj .1) (hq .0) (hq .1) x in
       let other = a .agreed k q m g u (hk .0) (hk .1) (hq .0) (hq .1) y in
@@ -60,7 +63,8 @@ module _ (n : ℕ) (table : List Entry) (law : Lawful n table) (w : World) (a : 
   goes-within k m d q hk x e = in-group n d q (law .destinations (entryOf m d) (a .listed k m d (hk .0) (hk .1) x) .1) e
 
   -- what a ledger holds has this ledger among its destinations
-  pub goes-there : (k : ℕ) → OfGroup n k → (i : ℕ) → i < limit → i < w .ledgers k .count → has (at (w .ledgers k .payments) i .destinations) k ≡ true
+  pub goes-there : (k : ℕ) → OfGroup n k → (i : ℕ) → i < limit → i < w .ledgers k .count
+      → has (at (w .ledgers k .payments) i .destinations) k ≡ true
   goes-there k hk i h u =
       let l = w .ledgers k in
       let well = a .well k (hk .0) (hk .1) in
@@ -81,11 +85,18 @@ module _ (n : ℕ) (table : List Entry) (law : Lawful n table) (w : World) (a : 
     pub all-here : here .heard ≡ here .destinations
     all-here =
         stamp-all (w .ledgers k .own .0) here (x .so .0)
-        (each-at (w .ledgers k .payments) (w .ledgers k .count) (phaseRight (w .ledgers k .own .0)) (clauses _ (well .is-sound) .kept .phase) (x .at-place) (x .within) (x .used))
+        (each-at (w .ledgers k .payments) (w .ledgers k .count) (phaseRight (w .ledgers k .own .0))
+        (clauses _ (well .is-sound) .kept .phase) (x .at-place) (x .within) (x .used))
 
     pub time-here : (q : ℕ) → heardFrom here q ≡ true → Heard (w .ledgers k) m (here .destinations) q (timeFrom here q)
     time-here q h =
-        record { at-place = x .at-place; within = x .within; used = x .used; number = x .number; so = record { destinations = refl; heard = h; time = refl } }
+        record {
+          at-place = x .at-place;
+          within = x .within;
+          used = x .used;
+          number = x .number;
+          so = record { destinations = refl; heard = h; time = refl };
+        }
 
     pub in-group-here : (q : ℕ) → heardFrom here q ≡ true → OfGroup n q
     in-group-here q h = goes-within k m (here .destinations) q hk goes-here (ap (λ b. has b q) (sym all-here) ∙ h)
@@ -103,8 +114,10 @@ module _ (n : ℕ) (table : List Entry) (law : Lawful n table) (w : World) (a : 
 
     proposed : (heardFrom here (s .ledger .0) ≡ true) × (timeFrom here (s .ledger .0) ≡ s .time .0)
     proposed =
-        let p = greatest-proposed (here .times) (here .heard) mostLedgers (s .ledger .0 - 1) (ap (λ r. r .ledger .0) (x .so .1) ∙ stamp-ledger) in
-        subst (λ q. (heardFrom here q ≡ true) × (timeFrom here q ≡ s .time .0)) (sym stamp-ledger) (p .0, ap (λ t. t .0) (p .1) ∙ ap (λ r. r .time .0) (x .so .1))
+        let p = greatest-proposed (here .times) (here .heard) mostLedgers (s .ledger .0 - 1)
+        (ap (λ r. r .ledger .0) (x .so .1) ∙ stamp-ledger) in
+        subst (λ q. (heardFrom here q ≡ true) × (timeFrom here q ≡ s .time .0)) (sym stamp-ledger)
+        (p .0, ap (λ t. t .0) (p .1) ∙ ap (λ r. r .time .0) (x .so .1))
 
     pub stamp-of-group : OfGroup n (s .ledger .0)
     stamp-of-group = in-group-here (s .ledger .0) (proposed .0)
@@ -126,10 +139,12 @@ module _ (n : ℕ) (table : List Entry) (law : Lawful n table) (w : World) (a : 
       ∙ ap (λ b. greatest (q .times) b mostLedgers) heard
       ∙ y .so .1
 
-  pub no-two-alike : (j k x y : ℕ) (s : Stamp) → OfGroup n j → OfGroup n k → HasStamp (w .ledgers j) x s → HasStamp (w .ledgers k) y s → x ≡ y
+  pub no-two-alike : (j k x y : ℕ) (s : Stamp) → OfGroup n j → OfGroup n k → HasStamp (w .ledgers j) x s → HasStamp (w .ledgers k) y s
+      → x ≡ y
   no-two-alike j k x y s hj hk u v =
       let q = s .ledger .0 in
       let hq = stamp-of-group j x s hj u in
-      own-times-differ (w .ledgers q) (a .well q (hq .0) (hq .1) .is-sound) x y _ _ q (s .time .0) (hq .0) (let most = law .ledgers .1 in let few = hq .1 in omega arith)
+      own-times-differ (w .ledgers q) (a .well q (hq .0) (hq .1) .is-sound) x y _ _ q (s .time .0) (hq .0)
+      (let most = law .ledgers .1 in let few = hq .1 in omega arith)
       (a .agreed j q x _ (s .time .0) (hj .0) (hj .1) (hq .0) (hq .1) (stamp-heard j x s hj u))
       (a .agreed k q y _ (s .time .0) (hk .0) (hk .1) (hq .0) (hq .1) (stamp-heard k y s hk v))

@@ -8,8 +8,9 @@ use Rattle.payment.specs.Payments.{stampOf}
 use Rattle.payment.specs.declared.Stamp.{Stamp}
 use Rattle.held.specs.Held.{at}
 use Rattle.agreement.specs.Run.{Call, Entry, Lawful, Run, after, multicastCopy}
-use Rattle.agreement.specs.Claims.{Addressed, Agreement, AllHandedIn, Demand3, HandedIn, HasStamp, OfGroup}
+use Rattle.agreement.specs.Claims.{AgreementInAll, Addressed, Agreement, AllHandedIn, Demand3, HandedIn, HasStamp, OfGroup}
 use Rattle.agreement.proofs.Agreed.{entryOf}
+use Rattle.agreement.proofs.Few.{run-in-all}
 use Rattle.agreement.proofs.Full.{all-posted, own-given}
 use Rattle.agreement.proofs.Invariant.{Kept, answers-only, asked, kept, stays-always}
 use Rattle.agreement.proofs.Order.{earlier, never-twice, no-gaps, same-order}
@@ -28,7 +29,13 @@ module _ (n : ℕ) (table : List Entry) (cs : List Call) (run : Run n table cs) 
       let x = k .logs j h .posted m i in
       record {
         entry = entryOf m (at (after n cs .ledgers j .payments) (x .at-place) .destinations);
-        in-table = k .agrees .listed j m _ (h .0) (h .1) (record { at-place = x .at-place; within = x .within; used = x .used; number = x .number; so = refl });
+        in-table = k .agrees .listed j m _ (h .0) (h .1) (record {
+          at-place = x .at-place;
+          within = x .within;
+          used = x .used;
+          number = x .number;
+          so = refl;
+        });
         number = refl;
         destination = goes-there n table law (after n cs) (k .agrees) j h (x .at-place) (x .within) (x .used);
       }
@@ -47,11 +54,20 @@ module _ (n : ℕ) (table : List Entry) (cs : List Call) (run : Run n table cs) 
   stamped : (j m : ℕ) → OfGroup n j → In m (after n cs .logs j) → (s : Stamp) × HasStamp (after n cs .ledgers j) m s
   stamped j m h i =
       let x = k .logs j h .posted m i in
-      let p = at (after n cs .ledgers j .payments) (x .at-place) in
-      (stampOf p, record { at-place = x .at-place; within = x .within; used = x .used; number = x .number; so = (posted-stamp p (x .so), refl) })
+      let p = at (after n cs .ledgers j .payments) (x .at-place) in (
+        stampOf p,
+        record {
+          at-place = x .at-place;
+          within = x .within;
+          used = x .used;
+          number = x .number;
+          so = (posted-stamp p (x .so), refl);
+        },
+      )
 
   -- a posted payment has its ledger's own time, which a MULTICAST copy gave it
-  asked-here : (j m : ℕ) → OfGroup n j → In m (after n cs .logs j) → (e : Entry) × In e table × (e .number ≡ m) × HandedIn (multicastCopy e) j cs
+  asked-here : (j m : ℕ) → OfGroup n j → In m (after n cs .logs j) → (e : Entry) × In e table × (e .number ≡ m)
+      × HandedIn (multicastCopy e) j cs
   asked-here j m h i =
       let s = stamped j m h i in
       let x = s .1 in
@@ -83,3 +99,7 @@ module _ (n : ℕ) (table : List Entry) (cs : List Call) (run : Run n table cs) 
 -- demand 3
 pub demand-3 : Agreement
 demand-3 = demanded
+
+-- as the demand is worded: no more payments in all than a ledger can hold
+pub demand-3-in-all : AgreementInAll
+demand-3-in-all n table cs r = demand-3 n table cs (run-in-all n table cs r)

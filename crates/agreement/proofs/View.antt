@@ -13,12 +13,12 @@ use lib.ListN.{length}
 use lib.Seq.{getD-set-other, getD-set-same}
 use Rattle.common.proofs.PlaceLaws.{getD-listed}
 use Rattle.common.proofs.TestLaws.{split}
-use Rattle.payment.specs.Payments.{allHeard, stampOf}
+use Rattle.payment.specs.Payments.{allHeard, inPhase, posted, stampOf}
 use Rattle.payment.specs.declared.Payment.{Payment}
 use Rattle.held.specs.Held.{at, limit, noPayment}
-use Rattle.held.specs.Posting.{afterPosting, isFree, nowPosted}
-use Rattle.ledger.specs.Step.{afterStamping, countFor, inPhase, placeFor, postRule, taken}
-use Rattle.ledger.specs.declared.Incoming.{Incoming}
+use Rattle.posting.specs.Posting.{afterPosting, isFree}
+use Rattle.ledger.specs.Step.{afterStamping, countFor, placeFor, postRule, taken}
+use Rattle.refusals.specs.declared.Incoming.{Incoming}
 use Rattle.ledger.specs.declared.Ledger.{Ledger}
 use Rattle.soundness.specs.Shaped.{Shaped}
 use Rattle.soundness.proofs.Kept.{heardClock, heardOf-open, heardOf-stamped, heardPayment, posted-ledger}
@@ -35,7 +35,8 @@ same-refl p = record { number = refl; destinations = refl; heard = refl; times =
 
 -- what stands at a place after posting
 pub posted-place : (l : Ledger) (j : ℕ) → j < limit
-    → at (posted-ledger l .payments) j ≡ cond (isFree (l .payments) (l .own .0) j) (nowPosted (at (l .payments) j)) (at (l .payments) j)
+    → at (posted-ledger l .payments) j ≡ cond (isFree (l .payments) (l .own .0) j) (inPhase posted (at (l .payments) j))
+    (at (l .payments) j)
 unfolding afterPosting
 posted-place l j h = getD-listed limit _ j noPayment h
 
@@ -43,7 +44,7 @@ posted-place l j h = getD-listed limit _ j noPayment h
 posted-same : (l : Ledger) (j : ℕ) → j < limit → Same (at (posted-ledger l .payments) j) (at (l .payments) j)
 posted-same l j h = subst (λ p. Same p (at (l .payments) j)) (sym (posted-place l j h)) (either (isFree (l .payments) (l .own .0) j))
   where
-    either : (b : Bool) → Same (cond b (nowPosted (at (l .payments) j)) (at (l .payments) j)) (at (l .payments) j)
+    either : (b : Bool) → Same (cond b (inPhase posted (at (l .payments) j)) (at (l .payments) j)) (at (l .payments) j)
     either true = record { number = refl; destinations = refl; heard = refl; times = refl }
     either false = same-refl (at (l .payments) j)
 
@@ -65,7 +66,8 @@ pub record View (l : Ledger) (f : Incoming) (after : Ledger) : Type 0 where
   pub other : (j : ℕ) → j < limit → (j ≡ placeFor l f → ⊥) → Same (at (after .payments) j) (at (l .payments) j)
   pub clock-up : heardClock l f ≤ after .clock .0
   -- the clock is that of rules 1 and 2, or the stamp's time
-  pub clock-from : (after .clock .0 ≡ heardClock l f) ⊎ ((after .clock .0 ≡ stampOf (heardPayment l f) .time .0) × (allHeard (heardPayment l f) ≡ true))
+  pub clock-from : (after .clock .0 ≡ heardClock l f) ⊎ ((after .clock .0 ≡ stampOf (heardPayment l f) .time .0)
+      × (allHeard (heardPayment l f) ≡ true))
 
 module _ (l : Ledger) (f : Incoming) (shape : Shaped l) (h : placeFor l f < limit) where
   inside : placeFor l f < length (l .payments)
@@ -81,7 +83,8 @@ module _ (l : Ledger) (f : Incoming) (shape : Shaped l) (h : placeFor l f < limi
         own = refl;
         count = refl;
         self = subst (λ p. Same p (heardPayment l f)) (sym (getD-set-same (l .payments) (placeFor l f) q noPayment inside)) same;
-        other = λ j g n. subst (λ p. Same p (at (l .payments) j)) (sym (getD-set-other (l .payments) (placeFor l f) j q noPayment n)) (same-refl (at (l .payments) j));
+        other = λ j g n. subst (λ p. Same p (at (l .payments) j)) (sym (getD-set-other (l .payments) (placeFor l f) j q noPayment n))
+            (same-refl (at (l .payments) j));
         clock-up = up;
         clock-from = from;
       }

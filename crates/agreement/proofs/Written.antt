@@ -14,7 +14,7 @@ use Rattle.frame.specs.Frames.{Values, body, frameBytes, propose, total, values
 use Rattle.frame.specs.Digits.{sum}
 use Rattle.frame.specs.declared.Frame.the-variants.{Propose}
 use Rattle.frame.proofs.FrameLaws.{length-frameBytes, writing-fits}
-use Rattle.payment.specs.Ledgers.{without}
+use Rattle.ledgers.specs.Ledgers.{without}
 use Rattle.ledger.specs.Step.{newOwnTime, recipientsOf, sent, step, taken}
 use Rattle.ledger.specs.declared.Ledger.{Ledger}
 use Rattle.soundness.proofs.Steps.{Taken, is-refused, is-taken}
@@ -47,7 +47,8 @@ module _ (w : World) (c : Call) where
       go false = inr i
 
   -- a copy was there, or the call wrote it
-  pub copies-from : (A : Type 0) (x : Written) → (In x (w .written) → A) → (taken-call → (newCopy .recipients ≡ 0 → ⊥) → x ≡ newCopy → A) → In x (called w c .written) → A
+  pub copies-from : (A : Type 0) (x : Written) → (In x (w .written) → A)
+      → (taken-call → (newCopy .recipients ≡ 0 → ⊥) → x ≡ newCopy → A) → In x (called w c .written) → A
   unfolding called
   copies-from A x old new =
       split (eqb (newCopy .recipients) 0)
@@ -58,7 +59,8 @@ module _ (w : World) (c : Call) where
       was-taken t =
           split (eqb (answer w c) 0)
           (λ z. is-taken (w .ledgers (c .to)) (c .frame) (c .outgoing) (c .list) (eqb-true _ _ z))
-          (λ z. absurd (eqb-false _ _ t (ap (λ o. o .recipients) (is-refused (w .ledgers (c .to)) (c .frame) (c .outgoing) (c .list) (eqb-false _ _ z)))))
+          (λ z. absurd (eqb-false _ _ t (ap (λ o. o .recipients)
+          (is-refused (w .ledgers (c .to)) (c .frame) (c .outgoing) (c .list) (eqb-false _ _ z)))))
 
   -- a written copy is in the list
   pub copies-new : taken-call → (newCopy .recipients ≡ 0 → ⊥) → In newCopy (called w c .written)
@@ -66,12 +68,16 @@ module _ (w : World) (c : Call) where
   copies-new t n = subst (λ b. In newCopy (cond b (w .written) (newCopy ∷ w .written))) (sym (ne-eqb _ _ n)) (inl refl)
 
   -- what the copy of a taken MULTICAST holds
-  pub copy-is : (e : Entry) → taken-call → frameOf c ≡ deskFrame e → (newCopy .recipients ≡ 0 → ⊥) → before .own .0 ≡ c .to → newCopy ≡ copyOf e (c .to) (before .clock .0 + 1)
+  pub copy-is : (e : Entry) → taken-call → frameOf c ≡ deskFrame e → (newCopy .recipients ≡ 0 → ⊥) → before .own .0 ≡ c .to
+      → newCopy ≡ copyOf e (c .to) (before .clock .0 + 1)
   unfolding body sum
   copy-is e t q n own =
-      ap (λ x. record { frame = take 9 (x .outgoing); recipients = x .recipients }) (t .so ∙ ap (λ f. taken (w .ledgers (c .to)) f (c .outgoing) (c .list)) q)
-      ∙ ap (λ b. record { frame = take 9 b; recipients = without (e .destinations) (before .own .0) }) (written ∙ ap (λ o. o .buffer) (writing-fits v (c .outgoing) (t .outgoing-fits)))
-      ∙ ap (λ b. record { frame = b; recipients = without (e .destinations) (before .own .0) }) (take-at (frameBytes v) (drop 9 (c .outgoing)) 9 (length-frameBytes v refl))
+      ap (λ x. record { frame = take 9 (x .outgoing); recipients = x .recipients })
+      (t .so ∙ ap (λ f. taken (w .ledgers (c .to)) f (c .outgoing) (c .list)) q)
+      ∙ ap (λ b. record { frame = take 9 b; recipients = without (e .destinations) (before .own .0) })
+      (written ∙ ap (λ o. o .buffer) (writing-fits v (c .outgoing) (t .outgoing-fits)))
+      ∙ ap (λ b. record { frame = b; recipients = without (e .destinations) (before .own .0) })
+      (take-at (frameBytes v) (drop 9 (c .outgoing)) 9 (length-frameBytes v refl))
       ∙ ap (λ k. copyOf e k (before .clock .0 + 1)) own
     where
       v : Values

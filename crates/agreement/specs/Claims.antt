@@ -5,7 +5,7 @@ use mathlib.Core.Path.{_≡_}
 use mathlib.Core.List.{List, [], _∷_, _++_}
 use mathlib.Core.Bool.{true}
 use mathlib.Core.Logic.{_⊎_}
-use Rattle.payment.specs.Ledgers.{has}
+use Rattle.ledgers.specs.Ledgers.{has}
 use Rattle.payment.specs.Payments.{hasStamp, stampOf}
 use Rattle.payment.specs.Stamps.{below}
 use Rattle.payment.specs.declared.Payment.{Payment}
@@ -13,7 +13,7 @@ use Rattle.payment.specs.declared.Stamp.{Stamp}
 use Rattle.held.specs.Held.{at, limit}
 use Rattle.ledger.specs.declared.Ledger.{Ledger}
 use Rattle.common.specs.Places.{In}
-use Rattle.agreement.specs.Run.{Call, Calls, Entry, Run, World, Written, after, multicastCopy}
+use Rattle.agreement.specs.Run.{Call, Calls, Entry, Run, RunInAll, World, Written, after, multicastCopy}
 
 -- a ledger holds payment m, and P is so of it
 pub record Holds (l : Ledger) (m : ℕ) (P : Payment → Type 0) : Type 0 where
@@ -108,6 +108,10 @@ pub record Demand3 (n : ℕ) (table : List Entry) (cs : List Call) : Type 0 wher
 -- demand 3 is of every run
 abbrev pub Agreement : Type 0
 Agreement = (n : ℕ) (table : List Entry) (cs : List Call) → Run n table cs → Demand3 n table cs
+
+-- and of every run of no more payments in all than a ledger can hold
+abbrev pub AgreementInAll : Type 0
+AgreementInAll = (n : ℕ) (table : List Entry) (cs : List Call) → RunInAll n table cs → Demand3 n table cs
 
 -- and every run can be gone on with until every copy is handed in
 abbrev pub Completion : Type 0

@@ -10,13 +10,13 @@ use lib.ListN.{getD, length, take}
 use Rattle.common.specs.Places.{In, count}
 use Rattle.frame.specs.Frames.{frameBytes, propose, total, valuesOf}
 use Rattle.frame.specs.declared.Frame.the-variants.{Multicast}
-use Rattle.payment.specs.Ledgers.{has, mostLedgers}
+use Rattle.ledgers.specs.Ledgers.{has, mostLedgers}
 use Rattle.held.specs.Held.{limit}
 use Rattle.ledger.specs.State.{setUp}
 use Rattle.ledger.specs.Step.{step}
 use Rattle.ledger.specs.declared.Ledger.{Ledger}
 
--- a payment of the table: its number and its destinations
+-- a payment of a run: its number and its destinations
 pub record Entry : Type 0 where
   pub number : ℕ
   pub destinations : ℕ
@@ -25,18 +25,25 @@ pub record Entry : Type 0 where
 abbrev pub noEntry : Entry
 noEntry = record { number = 0; destinations = 0 }
 
--- the payments of a run of N ledgers
-pub record Lawful (n : ℕ) (table : List Entry) : Type 0 where
+-- the payments of a run of N ledgers, with what is asked of how many they are
+pub record LawfulWith (n : ℕ) (table : List Entry) (few-enough : Type 0) : Type 0 where
   -- N from 1 to 8
   pub ledgers : (1 ≤ n) × (n ≤ mostLedgers)
   -- payments have different numbers
   pub differ : (i j : ℕ) → i < j → j < length table → getD table i noEntry .number ≡ getD table j noEntry .number → ⊥
   -- non-zero, of 32 bits
   pub number : (e : Entry) → In e table → (e .number ≡ 0 → ⊥) × (e .number < 2 ^ 32)
-  -- and destinations that aren't empty or beyond N
+  -- and destinations that are some, and none beyond N
   pub destinations : (e : Entry) → In e table → (e .destinations ≡ 0 → ⊥) × (e .destinations < 2 ^ n)
-  -- no ledger is a destination of more payments than it can hold (the paper does not say this: docs/DECISIONS.md, "The run")
-  pub few : (k : ℕ) → count (length table) (λ i. has (getD table i noEntry .destinations) k) ≤ limit
+  pub few : few-enough
+
+-- no ledger is a destination of more payments than it can hold (why this is asked: docs/DECISIONS.md, "The run")
+abbrev pub Lawful : ℕ → List Entry → Type 0
+Lawful n table = LawfulWith n table ((k : ℕ) → count (length table) (λ i. has (getD table i noEntry .destinations) k) ≤ limit)
+
+-- there are no more payments in all than a ledger can hold
+abbrev pub LawfulInAll : ℕ → List Entry → Type 0
+LawfulInAll n table = LawfulWith n table (length table ≤ limit)
 
 -- a PROPOSE that a step wrote, with its recipients: there is one copy for each
 pub record Written : Type 0 where
@@ -117,4 +124,9 @@ Calls n table (c ∷ cs) = May n table (after n cs) c × Calls n table cs
 -- a run of N ledgers with the payments of the table
 pub record Run (n : ℕ) (table : List Entry) (cs : List Call) : Type 0 where
   pub lawful : Lawful n table
+  pub calls : Calls n table cs
+
+-- a run of no more payments in all than a ledger can hold: what demand 3 is worded for
+pub record RunInAll (n : ℕ) (table : List Entry) (cs : List Call) : Type 0 where
+  pub lawful : LawfulInAll n table
   pub calls : Calls n table cs

@@ -1,31 +1,74 @@
--- The marked cases of document 01 run as written: computed from the definitions, step by step.
+-- The marked cases run as written: each is computed from the definitions, step by step.
 -- Assumes nothing.
 use mathlib.Core.Path.{_≡_, refl}
 use mathlib.Core.Bool.{true}
-use Rattle.common.specs.Order.{insert, sorted}
-use Rattle.common.specs.Places.{any, count, every, first, listed}
-use Rattle.frame.specs.Digits.{bytesOf, numberOf, pack, sum, unpack}
-use Rattle.frame.specs.Frames.{body, known, notAFrame, writingOf}
-use Rattle.payment.specs.Ledgers.{has, with, without}
-use Rattle.payment.specs.Payments.{greatest, hear, timeIn, unlawful}
-use Rattle.payment.specs.Right.{heardRight, notAboveClock, timesDiffer, phaseRight, unused}
-use Rattle.payment.specs.Stamps.{below}
-use Rattle.held.specs.Checked.{comesAfter}
-use Rattle.held.specs.Posting.{afterPosting, holdsBack, isFree, posting}
-use Rattle.ledger.specs.Refusals.{firstGiven}
-use Rattle.ledger.specs.Sound.{sound}
-use Rattle.ledger.specs.State.{setUp}
-use Rattle.ledger.specs.Step.{multicastRule, proposeRule, postRule, stampRule, step}
-use Rattle.cases.specs.Cases.{allRun, asExpected, runFrom, same, stand}
-use Rattle.cases.specs.Table.{table}
+use Rattle.common.proofs.TestLaws.{and-both}
+use Rattle.ledger.proofs.Computing.{computing}
+use Rattle.cases.specs.Cases.{allRun, asExpected, runFrom, runs, stand}
+use Rattle.cases.specs.Table.{caseA, caseB, caseC, caseD, caseE, caseF, caseG, caseH, caseI, caseJ, caseL, table}
 
--- the single statement: every row of the table hands back what the paper says
+-- unfolding this unfolds all that a case computes with
+unfoldable running : Unit {0}
+unfolding computing runFrom asExpected stand
+running = tt
+
+case-A : runs caseA ≡ true
+unfolding running caseA
+case-A = refl
+
+case-B : runs caseB ≡ true
+unfolding running caseB
+case-B = refl
+
+case-C : runs caseC ≡ true
+unfolding running caseC
+case-C = refl
+
+case-D : runs caseD ≡ true
+unfolding running caseD
+case-D = refl
+
+case-E : runs caseE ≡ true
+unfolding running caseE
+case-E = refl
+
+case-F : runs caseF ≡ true
+unfolding running caseF
+case-F = refl
+
+case-G : runs caseG ≡ true
+unfolding running caseG
+case-G = refl
+
+case-H : runs caseH ≡ true
+unfolding running caseH
+case-H = refl
+
+case-I : runs caseI ≡ true
+unfolding running caseI
+case-I = refl
+
+case-J : runs caseJ ≡ true
+unfolding running caseJ
+case-J = refl
+
+case-L : runs caseL ≡ true
+unfolding running caseL
+case-L = refl
+
+-- the single statement: every row of the table hands back what is written there
 pub all-cases : allRun table ≡ true
-unfolding
-    table allRun runFrom asExpected stand same
-    step postRule stampRule proposeRule multicastRule setUp sound firstGiven
-    posting afterPosting isFree holdsBack comesAfter
-    below unused phaseRight timesDiffer notAboveClock heardRight unlawful timeIn hear greatest has with without
-    writingOf notAFrame known body unpack sum pack numberOf bytesOf
-    any count every first listed insert sorted
-all-cases = refl
+unfolding allRun table
+all-cases =
+    and-both case-A
+    (and-both case-B
+    (and-both case-C
+    (and-both case-D
+    (and-both case-E
+    (and-both case-F
+    (and-both case-G
+    (and-both case-H
+    (and-both case-I
+    (and-both case-J
+    (and-both case-L
+    refl))))))))))

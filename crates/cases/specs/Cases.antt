@@ -1,12 +1,13 @@
 -- Document 01, "From the counter": what a worked case is, and when it runs as written.
 -- Assumes nothing.
+use Rattle.common.specs.Places.{sameNumbers}
 use Prim.Native.Nat.{ℕ, _-_}
 use Prim.Native.Char.{Char}
 use mathlib.Core.List.{List, [], _∷_, _++_}
-use mathlib.Core.Bool.{Bool, true, false, cond, _&&_}
+use mathlib.Core.Bool.{Bool, true, cond, _&&_}
 use lib.Dec.{eqb}
 use lib.ListN.{length, replicate}
-use Rattle.payment.specs.Payments.{stampOf, timeFrom}
+use Rattle.payment.specs.Payments.{hasStamp, stampOf, timeFrom}
 use Rattle.held.specs.Held.{at, limit, placeOf}
 use Rattle.ledger.specs.State.{setUp}
 use Rattle.ledger.specs.Step.{Outcome, step}
@@ -67,24 +68,18 @@ zeros n = replicate n 0
 abbrev pub calling : Ledgers → Call → Outcome
 calling ls c = step (ledgerOf ls (c .ledger)) (c .frame) (zeros 9) (zeros limit)
 
--- two lists have the same numbers
-unfoldable pub same : List ℕ → List ℕ → Bool
-same [] [] = true
-same [] (y ∷ ys) = false
-same (x ∷ xs) [] = false
-same (x ∷ xs) (y ∷ ys) = eqb x y && same xs ys
-
 -- a buffer of this size has these numbers from its first place, and is zeros from there on
 abbrev pub holdsOnly : ℕ → List ℕ → List ℕ → Bool
-holdsOnly size numbers buffer = same buffer (numbers ++ zeros (size - length numbers))
+holdsOnly size numbers buffer = sameNumbers buffer (numbers ++ zeros (size - length numbers))
 
--- the payments have these own times and stamps at ledger k
+-- the payments are stamped at ledger k, with these own times and stamps
 unfoldable pub stand : Ledger → ℕ → List Stamped → Bool
 stand l k [] = true
 stand l k (s ∷ ss) =
     let p = at (l .payments) (placeOf (l .payments) (s .payment)) in
-    eqb (timeFrom p k) (s .ownTime)
-    && (eqb (stampOf p .time .0) (s .stamp .0) && (eqb (stampOf p .ledger .0) (s .stamp .1) && stand l k ss))
+    hasStamp p
+    && (eqb (timeFrom p k) (s .ownTime)
+    && (eqb (stampOf p .time .0) (s .stamp .0) && (eqb (stampOf p .ledger .0) (s .stamp .1) && stand l k ss)))
 
 -- what a call handed back is what is expected
 unfoldable pub asExpected : Call → Outcome → Bool

@@ -64,7 +64,8 @@ count-le n f g h =
     let b = count-sum n g in
     omega arith
 
-pub count-lt : (n : ℕ) (f g : ℕ → Bool) → ((k : ℕ) → k < n → f k ≡ true → g k ≡ true) → (p : ℕ) → p < n → f p ≡ false → g p ≡ true → count n f < count n g
+pub count-lt : (n : ℕ) (f g : ℕ → Bool) → ((k : ℕ) → k < n → f k ≡ true → g k ≡ true) → (p : ℕ) → p < n → f p ≡ false → g p ≡ true
+    → count n f < count n g
 count-lt n f g h p i u t =
     let l = sum-lt n (one f) (one g) (λ k i. one-le f g k (h k i)) p i (less u t) in
     let a = count-sum n f in

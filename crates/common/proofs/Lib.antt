@@ -4,6 +4,7 @@ pub mod Settled
 pub mod TestLaws
 pub mod PlaceLaws
 pub mod OrderLaws
+pub mod RisingLaws
 pub mod ByteLaws
 pub mod CountLaws
 pub mod MemberLaws

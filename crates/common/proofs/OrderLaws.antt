@@ -51,7 +51,8 @@ module _ (before : ℕ → ℕ → Bool) where
     unfolding least
     least-only n e g = simp (e, eq-eqb _ _ g)
 
-    pub least-less : (n : ℕ) → f n ≡ true → (least none before f n ≡ none → ⊥) → before n (least none before f n) ≡ true → least none before f (suc n) ≡ n
+    pub least-less : (n : ℕ) → f n ≡ true → (least none before f n ≡ none → ⊥) → before n (least none before f n) ≡ true
+        → least none before f (suc n) ≡ n
     unfolding least
     least-less n e g b = simp (e, ne-eqb _ _ g, b)
 

@@ -7,6 +7,8 @@ use mathlib.Core.Logic.{⊎-elim}
 use native.Mathlib.Nat.{eq-or-lt-of-le, not-suc-le-zero, le-of-suc-le-suc}
 use native.Mathlib.Numerals.{add-one}
 use native.Mathlib.Omega.{arith}
+use lib.Dec.{eqb}
+use borrow.Author.Tests.{eqb-false, eqb-true}
 use Rattle.common.specs.Places.{any, every, first, listed}
 use mathlib.Core.List.{List, [], _∷_, _++_}
 use lib.ListN.{getD, length, length-append, List·getD-append}
@@ -16,6 +18,10 @@ use Rattle.common.proofs.TestLaws.{and-both, and-left, and-right, both,
 -- a place below n + 1 is n, or below n
 pub last-or-before : {A : Type 0} (n k : ℕ) → k < suc n → (k ≡ n → A) → (k < n → A) → A
 last-or-before n k h f g = ⊎-elim f g (eq-or-lt-of-le (le-of-suc-le-suc h))
+
+-- by whether two places are the same
+pub by-place : {A : Type 0} (j i : ℕ) → (j ≡ i → A) → ((j ≡ i → ⊥) → A) → A
+by-place j i f g = split (eqb j i) (λ t. f (eqb-true j i t)) (λ t. g (eqb-false j i t))
 
 pub every-at : (n : ℕ) (f : ℕ → Bool) → every n f ≡ true → (k : ℕ) → k < n → f k ≡ true
 unfolding every

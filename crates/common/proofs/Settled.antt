@@ -6,6 +6,6 @@ pub one-outcome {ℓ} : {A : Type ℓ} {promised r s : A} → r ≡ promised →
 one-outcome p q = p ∙ sym q
 
 -- so of what is told of a result beside a buffer: the result, and every place of the buffer
-pub told-apart : {A B C : Type 0} (result : A → B) (buffer : A → C) {promised x y : A} → x ≡ promised → y ≡ promised
+pub same-told : {A B C : Type 0} (result : A → B) (buffer : A → C) {promised x y : A} → x ≡ promised → y ≡ promised
     → (result x ≡ result y) × (buffer x ≡ buffer y)
-told-apart result buffer p q = let same = one-outcome p q in (ap result same, ap buffer same)
+same-told result buffer p q = let same = one-outcome p q in (ap result same, ap buffer same)

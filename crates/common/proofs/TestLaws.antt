@@ -1,7 +1,7 @@
 -- Laws of tests.
 -- Assumes nothing.
 use mathlib.Core.Path.{_≡_, refl, ap, sym, _∙_}
-use mathlib.Core.Bool.{Bool, true, false, not, _&&_, _||_, true≢false}
+use mathlib.Core.Bool.{Bool, true, false, _&&_, _||_, true≢false}
 use mathlib.Core.Logic.{_⊎_, inl, inr}
 
 -- a test is not both
@@ -51,9 +51,6 @@ or-right false b e = e
 pub or-cases : (a b : Bool) → a || b ≡ true → (a ≡ true) ⊎ (b ≡ true)
 or-cases true b e = inl refl
 or-cases false b e = inr e
-
-pub not-true : (b : Bool) → b ≡ false → not b ≡ true
-not-true b e = simp e
 
 -- two tests that hold together are the same
 pub same : (a b : Bool) → (a ≡ true → b ≡ true) → (b ≡ true → a ≡ true) → a ≡ b

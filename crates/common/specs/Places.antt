@@ -5,6 +5,7 @@ use mathlib.Core.Path.{_≡_}
 use mathlib.Core.List.{List, [], _∷_, _++_}
 use mathlib.Core.Bool.{Bool, true, false, cond, _&&_, _||_}
 use mathlib.Core.Logic.{_⊎_}
+use lib.Dec.{eqb}
 
 -- f holds at every place below n
 unfoldable pub every : ℕ → (ℕ → Bool) → Bool
@@ -31,7 +32,19 @@ unfoldable pub listed {ℓ} : {A : Type ℓ} → ℕ → (ℕ → A) → List A
 listed zero f = []
 listed (suc n) f = listed n f ++ (f n ∷ [])
 
+-- two lists are equal, place by place
+unfoldable pub sameNumbers : List ℕ → List ℕ → Bool
+sameNumbers [] [] = true
+sameNumbers [] (y ∷ ys) = false
+sameNumbers (x ∷ xs) [] = false
+sameNumbers (x ∷ xs) (y ∷ ys) = eqb x y && sameNumbers xs ys
+
 -- a member of a list
 abbrev pub In : {A : Type 0} → A → List A → Type 0
 In x [] = ⊥
 In x (y ∷ ys) = (x ≡ y) ⊎ In x ys
+
+-- of every member of a list
+abbrev pub All : {A : Type 0} → (A → Type 0) → List A → Type 0
+All P [] = Unit {0}
+All P (x ∷ xs) = P x × All P xs

@@ -8,12 +8,12 @@ use held::HELD;
 use ledger::Ledger;
 
 // Destinations: ledger 1 alone, and ledgers 1 and 2.
-pub const ALONE: u8 = 1;
+pub(crate) const ALONE: u8 = 1;
 
-pub const BOTH: u8 = 3;
+pub(crate) const BOTH: u8 = 3;
 
 // What a call handed back, and the buffers as it left them.
-pub struct Called {
+pub(crate) struct Called {
     pub state: Ledger,
     pub answer: u8,
     pub recipients: u8,
@@ -23,7 +23,7 @@ pub struct Called {
     pub list: [u32; HELD],
 }
 
-pub fn fresh() -> Ledger {
+pub(crate) fn fresh() -> Ledger {
     let done = ledger::nothing().set_up(2, LedgerNo(1));
     let state = done.state;
     state
@@ -58,13 +58,13 @@ fn copy(payment: u32, destinations: u8) -> [u8; 6] {
     bytes
 }
 
-pub fn multicast(state: Ledger, payment: u32, destinations: u8) -> Called {
+pub(crate) fn multicast(state: Ledger, payment: u32, destinations: u8) -> Called {
     let bytes = copy(payment, destinations);
     call(state, &bytes)
 }
 
 // The last of so many MULTICASTs of different payments, at a fresh ledger.
-pub fn multicasts(count: u32) -> Called {
+pub(crate) fn multicasts(count: u32) -> Called {
     let mut last = multicast(fresh(), 1, BOTH);
     let mut n: u32 = 1;
     while n < count {
@@ -76,7 +76,7 @@ pub fn multicasts(count: u32) -> Called {
 }
 
 // The answer to a MULTICAST with an outgoing buffer one byte too short.
-pub fn short(state: Ledger, payment: u32, destinations: u8) -> u8 {
+pub(crate) fn short(state: Ledger, payment: u32, destinations: u8) -> u8 {
     let bytes = copy(payment, destinations);
     let mut outgoing = [0u8; 8];
     let mut list = [0u32; HELD];
@@ -85,7 +85,7 @@ pub fn short(state: Ledger, payment: u32, destinations: u8) -> u8 {
 }
 
 // A PROPOSE of ledger 2, to both.
-pub fn propose(state: Ledger, payment: u32, time: u16) -> Called {
+pub(crate) fn propose(state: Ledger, payment: u32, time: u16) -> Called {
     let mut bytes = [0u8; 9];
     let number = PaymentNo(payment);
     let source = LedgerNo(2);
@@ -101,7 +101,7 @@ pub fn propose(state: Ledger, payment: u32, time: u16) -> Called {
 }
 
 // The time in an outgoing frame; 0 where there is none.
-pub fn own_time(outgoing: [u8; 9]) -> u16 {
+pub(crate) fn own_time(outgoing: [u8; 9]) -> u16 {
     match frame::read(&outgoing) {
         ReadAnswer::NotAFrame => 0,
         ReadAnswer::Accepted(f) => match f {

@@ -3,20 +3,7 @@
 use Prim.Native.Nat.{ℕ}
 use mathlib.Core.Path.{_≡_, refl}
 use mathlib.Core.List.{List, [], _∷_}
-use Rattle.common.specs.Order.{insert, sorted}
-use Rattle.common.specs.Places.{any, count, every, first, listed}
-use Rattle.frame.specs.Digits.{bytesOf, numberOf, pack, sum, unpack}
-use Rattle.frame.specs.Frames.{body, known, notAFrame, writingOf}
-use Rattle.payment.specs.Ledgers.{has, with, without}
-use Rattle.payment.specs.Payments.{greatest, hear, timeIn, unlawful}
-use Rattle.payment.specs.Right.{heardRight, notAboveClock, phaseRight, timesDiffer, unused}
-use Rattle.payment.specs.Stamps.{below}
-use Rattle.held.specs.Checked.{comesAfter}
-use Rattle.held.specs.Posting.{afterPosting, holdsBack, isFree, posting}
-use Rattle.ledger.specs.Refusals.{firstGiven}
-use Rattle.ledger.specs.Sound.{sound}
-use Rattle.ledger.specs.State.{setUp}
-use Rattle.ledger.specs.Step.{multicastRule, postRule, proposeRule, stampRule, step}
+use Rattle.ledger.proofs.Computing.{computing}
 use Rattle.records.specs.Records.{frameIn, recordTotal, started, stepped, stops, turn}
 use Rattle.lines.specs.Decimal.{digits}
 use Rattle.lines.specs.Lines.{spaced}
@@ -52,11 +39,5 @@ lines =
     ∷ []
 
 pub case-l : output begun records ≡ lines
-unfolding
-    outputs turn stops started frameIn stepped recordTotal spaced digits
-    step postRule stampRule proposeRule multicastRule setUp sound firstGiven
-    posting afterPosting isFree holdsBack comesAfter
-    below unused phaseRight timesDiffer notAboveClock heardRight unlawful timeIn hear greatest has with without
-    writingOf notAFrame known body unpack sum pack numberOf bytesOf
-    any count every first listed insert sorted
+unfolding computing outputs turn stops started frameIn stepped recordTotal spaced digits
 case-l = refl

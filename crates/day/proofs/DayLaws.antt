@@ -51,7 +51,8 @@ module _ (d : Day) (bytes buffer : List ℕ) where
       ∙ ap (λ n. left (after .group) end n over (wrote written new)) s
       ∙ ap (λ t. left (after .group) end count t (wrote written new)) v
       ∙ ap (λ x. left (after .group) end count (ends (after .did)) x) w
-      ∙ ap (λ (t : Turned). left (t .group) end (counted (d .steps + stepsIn (t .did))) (ends (t .did)) (writing (printed (t .did) (d .offset) (t .list)) buffer)) e
+      ∙ ap (λ (t : Turned). left (t .group) end (counted (d .steps + stepsIn (t .did))) (ends (t .did))
+      (writing (printed (t .did) (d .offset) (t .list)) buffer)) e
 
 module _ (d : Day) (buffer : List ℕ) where
   pub close-over : d .over ≡ true → close d buffer ≡ record { length = 0; buffer = buffer }

@@ -14,16 +14,16 @@ use lib.Seq.{drop-append-le, sets}
 use Rattle.common.proofs.TestLaws.{both, or-true, split}
 use Rattle.frame.specs.Frames.{kindIn}
 use Rattle.records.specs.Records.{recordTotal, stops}
-use Rattle.records.proofs.FollowLaws.{goes-some, goes-whole, kind-follows, turn-follows}
-use Rattle.records.proofs.RecordLaws.{turn-stops}
+use Rattle.records.proofs.FollowLaws.{kind-follows, turn-follows}
+use Rattle.records.proofs.RecordLaws.{goes-some, goes-whole, turn-stops}
 use Rattle.lines.specs.Lines.{printed}
 use Rattle.day.specs.Days.{counted, ends, lastLine, lineFor, next, output, outputs, read, stepsIn, turned}
 use Rattle.day.specs.declared.Day.{Day}
 
 -- a record after which the run goes on did not end it
-went-on : (d : Day) (bytes : List ℕ) → next d bytes .over ≡ false → stops (d .group) bytes ≡ false
+went-on : (d : Day) (bytes : List ℕ) → next d bytes .over ≡ false → stops (d .group .count) bytes ≡ false
 went-on d bytes e =
-    split (stops (d .group) bytes)
+    split (stops (d .group .count) bytes)
     (λ t. both (ap (λ (o : Turned). ends (o .did)) (turn-stops (d .group) bytes _ t)) e)
     (λ t. t)
 
@@ -62,7 +62,7 @@ enough (suc j) (suc k) d bytes a b =
     ∙ ap (λ (l : List ℕ). lineFor d bytes ++ l)
     (split (next d bytes .over)
     (λ t. outputs-over j (next d bytes) rest t ∙ sym (outputs-over k (next d bytes) rest t))
-    (λ g. let two = goes-some (d .group) bytes (went-on d bytes g) in
+    (λ g. let two = goes-some (d .group .count) bytes (went-on d bytes g) in
     let less = length-drop (recordTotal (kindIn bytes)) bytes in
     enough j k (next d bytes) rest (omega arith) (omega arith)))
     ∙ sym (outputs-more k d bytes f some)))
@@ -100,14 +100,15 @@ module _ (d : Day) (bytes more : List ℕ) (some : 1 ≤ length bytes) (ready : 
         over = ends (o .did);
       }) same-turned (kind-follows bytes more some)
 
-  rest-same : (n k : ℕ) → (stops (d .group) bytes ≡ false → n ≡ recordTotal (kindIn bytes)) → length (bytes ++ more) ≤ suc k
-      → outputs k (next d bytes) (drop (recordTotal (kindIn (bytes ++ more))) (bytes ++ more)) ≡ output (next d bytes) (drop n bytes ++ more)
+  rest-same : (n k : ℕ) → (stops (d .group .count) bytes ≡ false → n ≡ recordTotal (kindIn bytes)) → length (bytes ++ more) ≤ suc k
+      → outputs k (next d bytes) (drop (recordTotal (kindIn (bytes ++ more))) (bytes ++ more)) ≡ output (next d bytes)
+      (drop n bytes ++ more)
   rest-same n k size fits =
       split (next d bytes .over)
       (λ t. outputs-over k (next d bytes) _ t ∙ sym (outputs-over (length (drop n bytes ++ more)) (next d bytes) (drop n bytes ++ more) t))
       (λ f. let go = went-on d bytes f in
-      let whole = goes-whole (d .group) bytes go in
-      let two = goes-some (d .group) bytes go in
+      let whole = goes-whole (d .group .count) bytes go in
+      let two = goes-some (d .group .count) bytes go in
       let n-is = size go in
       let cut : drop (recordTotal (kindIn (bytes ++ more))) (bytes ++ more) ≡ drop n bytes ++ more =
       ap (λ (m : ℕ). drop (recordTotal m) (bytes ++ more)) (kind-follows bytes more some)
@@ -118,15 +119,17 @@ module _ (d : Day) (bytes more : List ℕ) (some : 1 ≤ length bytes) (ready : 
       (omega (arith, length-append (drop n bytes) more, length-append bytes more, length-drop n bytes)) (omega arith))
 
   -- the first record, and then the rest
-  pub reads-on : (n : ℕ) → (stops (d .group) bytes ≡ false → n ≡ recordTotal (kindIn bytes))
+  pub reads-on : (n : ℕ) → (stops (d .group .count) bytes ≡ false → n ≡ recordTotal (kindIn bytes))
       → output d (bytes ++ more) ≡ text d bytes ++ output (after d bytes) (drop n bytes ++ more)
   reads-on n size =
       split (d .over)
-      (λ t. outputs-over (length (bytes ++ more)) d (bytes ++ more) t ∙ sym (simp t (outputs-over (length (drop n bytes ++ more)) d (drop n bytes ++ more) t)))
+      (λ t. outputs-over (length (bytes ++ more)) d (bytes ++ more) t
+      ∙ sym (simp t (outputs-over (length (drop n bytes ++ more)) d (drop n bytes ++ more) t)))
       (λ f. let k = length (bytes ++ more) - 1 in
       let long = length-append bytes more in
       enough (length (bytes ++ more)) (suc k) d (bytes ++ more) (omega arith) (omega arith)
       ∙ outputs-more k d (bytes ++ more) f (λ z. omega arith)
-      ∙ ap₂ (λ (o : Turned) (e : Day). printed (o .did) (d .offset) (o .list) ++ outputs k e (drop (recordTotal (kindIn (bytes ++ more))) (bytes ++ more))) same-turned same-next
+      ∙ ap₂ (λ (o : Turned) (e : Day). printed (o .did) (d .offset) (o .list) ++ outputs k e
+      (drop (recordTotal (kindIn (bytes ++ more))) (bytes ++ more))) same-turned same-next
       ∙ ap (λ (l : List ℕ). lineFor d bytes ++ l) (rest-same n k size (omega arith))
       ∙ sym (simp f refl))

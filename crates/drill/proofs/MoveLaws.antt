@@ -42,6 +42,7 @@ module _
       ∙ ap (λ (n : ℕ). drop n old) e
 
 -- what is read behind the front leaves it as it was
-pub front-stays : (xs ys front : List ℕ) (r m k : ℕ) → r ≡ m → r ≤ length xs → take r xs ≡ take r front → take m (putMid r k xs ys) ≡ take m front
+pub front-stays : (xs ys front : List ℕ) (r m k : ℕ) → r ≡ m → r ≤ length xs → take r xs ≡ take r front
+    → take m (putMid r k xs ys) ≡ take m front
 front-stays xs ys front r m k e h same =
     ap (λ (n : ℕ). take n (putMid r k xs ys)) (sym e) ∙ take-put r k xs ys h ∙ same ∙ ap (λ (n : ℕ). take n front) e

@@ -1,9 +1,9 @@
 -- Reading an input in parts, wherever it is split.
 -- Assumes nothing.
-use Prim.Native.Nat.{ℕ}
+use Prim.Native.Nat.{ℕ, _≤_}
 use mathlib.Core.Path.{_≡_}
 use mathlib.Core.List.{List, [], _++_}
-use mathlib.Core.Bool.{Bool, true, not, _&&_, _||_}
+use mathlib.Core.Bool.{Bool, true, false, not, _&&_, _||_}
 use lib.Dec.{eqb, ltb}
 use lib.ListN.{length}
 use Rattle.frame.specs.Frames.{kindIn}
@@ -19,3 +19,12 @@ waiting last bytes = not last && (eqb (length bytes) 0 || ltb (length bytes) (re
 -- (none behind the last), all that is printed is the text and then what is printed of the rest
 pub record Prints (d : Day) (bytes : List ℕ) (last : Bool) (text : List ℕ) (after : Day) (rest : List ℕ) : Type 0 where
   pub whatever : (more : List ℕ) → (last ≡ true → more ≡ []) → output d (bytes ++ more) ≡ text ++ output after (rest ++ more)
+
+-- no line is longer than this (lines/LineLaws.printed-short)
+abbrev pub longestLine : ℕ
+longestLine = 1024
+
+-- what can be read is read: where the run is not over, the record at the start of the bytes is there and does not wait, and a line has
+-- room, at least one byte is read
+pub record Moves (d : Day) (bytes : List ℕ) (last : Bool) (room read : ℕ) : Type 0 where
+  pub on : d .over ≡ false → 1 ≤ length bytes → waiting last bytes ≡ false → longestLine ≤ room → 1 ≤ read

@@ -7,11 +7,12 @@ ghost use Rattle.frame.specs.Frames.{kindIn};
 ghost use Rattle.records.specs.Records.{recordTotal};
 ghost use Rattle.drill.specs.Stream.{waiting};
 
-// The part of the buffer that is still to be read, and whether no more input comes.
+// The part of the buffer that is still to be read, whether no more input comes, and whether a read of the input failed.
 pub(crate) struct Hand {
     pub at: usize,
     pub filled: usize,
     pub last: bool,
+    pub failed: bool,
 }
 
 // Before anything is read.
@@ -22,6 +23,7 @@ pub(crate) fn none() -> Hand
         at: 0,
         filled: 0,
         last: false,
+        failed: false,
     }
 }
 
@@ -36,14 +38,6 @@ pub(crate) fn waits(bytes: &[u8], last: bool) -> bool
         return true;
     }
     bytes.len() < records::total(bytes[0])
-}
-
-// Whether no record can be read before more input comes.
-pub(crate) fn is_spent(bytes: &[u8], last: bool) -> bool {
-    if bytes.len() == 0 {
-        return true;
-    }
-    waits(bytes, last)
 }
 
 // How many bytes the record at the start takes: at least its kind, and at most all.
@@ -75,20 +69,37 @@ fn keep(buffer: &mut [u8], at: usize, filled: usize) -> usize
     left
 }
 
-// Reads once behind the bytes that are left. A read that fails counts as the end of the input.
-pub(crate) fn refill(buffer: &mut [u8], at: usize, filled: usize) -> Hand
+// Reads once behind the bytes that are left.
+fn refill(buffer: &mut [u8], at: usize, filled: usize) -> Hand
     requires { ⌜ (at ≤ filled) × (filled ≤ length (now buffer)) ⌝ }
     ensures within { λ r. ⌜ (r .at ≤ r .filled) × (r .filled ≤ length (now (buffer .entry))) ⌝ }
-    ensures kept { λ r. ⌜ take (filled - at) (now (buffer .exit)) ≡ take (filled - at) (drop at (now (buffer .entry))) ⌝ }
+    ensures kept { λ r. ⌜ take (filled - at) (drop (r .at) (now (buffer .exit))) ≡ take (filled - at) (drop at (now (buffer .entry))) ⌝ }
 {
     let kept = keep(buffer, at, filled);
-    let n = io::count(
-        libc::read(STDIN_FILENO, &mut buffer[kept..]),
-        &buffer[kept..],
-    );
+    let got = libc::read(STDIN_FILENO, &mut buffer[kept..]);
+    let n = io::count(got, &buffer[kept..]);
     Hand {
         at: 0,
         filled: kept + n,
         last: n == 0,
+        failed: got < 0,
+    }
+}
+
+// The bytes at hand from a place on, with more input behind them where no record can be read before it comes.
+pub(crate) fn more(buffer: &mut [u8], hand: Hand, from: usize) -> Hand
+    requires { ⌜ (from ≤ hand .filled) × (hand .filled ≤ length (now buffer)) ⌝ }
+    ensures within { λ r. ⌜ (r .at ≤ r .filled) × (r .filled ≤ length (now (buffer .entry))) ⌝ }
+    ensures kept { λ r. ⌜ take (hand .filled - from) (drop (r .at) (now (buffer .exit))) ≡ take (hand .filled - from) (drop from (now (buffer .entry))) ⌝ }
+{
+    let filled = hand.filled;
+    if waits(&buffer[from..filled], hand.last) {
+        return refill(buffer, from, filled);
+    }
+    Hand {
+        at: from,
+        filled: filled,
+        last: hand.last,
+        failed: false,
     }
 }

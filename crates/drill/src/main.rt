@@ -2,10 +2,11 @@
 mod bytes;
 
 use day::Day;
+use libc::STDERR_FILENO;
 use libc::STDOUT_FILENO;
 ghost use Prim.Native.Nat.{_≤_};
 ghost use lib.ListN.{drop, length, take};
-ghost use Rattle.drill.specs.Stream.{Prints};
+ghost use Rattle.drill.specs.Stream.{Moves, Prints};
 
 // Every line fits in this.
 const LINE: usize = 1024;
@@ -17,34 +18,74 @@ struct Pass {
     printed: usize,
 }
 
-// Reads the records at hand, as long as a line has room.
+// What was printed of the bytes at hand: the day after it, how many were read, and whether the run goes on. It does not where a record
+// ended it, or the output takes no more.
+struct Printed {
+    day: Day,
+    read: usize,
+    on: bool,
+}
+
+// Reads one record, where the run is not over, a record is there that does not wait, and its line has room.
+fn read_one(day: Day, input: &[u8], last: bool, out: &mut [u8]) -> Pass
+    ensures within { λ r. ⌜ (r .read ≤ length (now (input .entry))) × (r .printed ≤ length (now (out .entry))) ⌝ }
+    ensures prints { λ r. ⌜ Prints day (now (input .entry)) last (take (r .printed) (now (out .exit))) (r .day) (drop (r .read) (now (input .entry))) ⌝ }
+    ensures moves { λ r. ⌜ Moves day (now (input .entry)) last (length (now (out .entry))) (r .read) ⌝ }
+{
+    if day.over | ((input.len() == 0) | ((out.len() < LINE) | bytes::waits(input, last))) {
+        return Pass {
+            day: day,
+            read: 0,
+            printed: 0,
+        };
+    }
+    let done = day.read(input, out);
+    let next = done.day;
+    Pass {
+        day: next,
+        read: bytes::taken(input),
+        printed: done.written,
+    }
+}
+
+// Reads the records at hand, until one cannot be read.
 fn read_all(begun: Day, input: &[u8], last: bool, out: &mut [u8]) -> Pass
     ensures within { λ r. ⌜ (r .read ≤ length (now (input .entry))) × (r .printed ≤ length (now (out .entry))) ⌝ }
     ensures prints { λ r. ⌜ Prints begun (now (input .entry)) last (take (r .printed) (now (out .exit))) (r .day) (drop (r .read) (now (input .entry))) ⌝ }
+    ensures moves { λ r. ⌜ Moves begun (now (input .entry)) last (length (now (out .entry))) (r .read) ⌝ }
 {
-    let mut day = begun;
-    let mut read: usize = 0;
-    let mut printed: usize = 0;
-    while read < input.len() {
-        if bytes::waits(&input[read..], last) {
-            break;
-        }
-        if out.len() - printed < LINE {
-            break;
-        }
-        let done = day.read(&input[read..], &mut out[printed..]);
-        let next = done.day;
+    let first = read_one(begun, input, last, out);
+    let mut day = first.day;
+    let mut read = first.read;
+    let mut printed = first.printed;
+    let mut moved = first.read;
+    while 0 < moved {
+        let one = read_one(day, &input[read..], last, &mut out[printed..]);
+        let next = one.day;
         day = next;
-        printed += done.written;
-        read += bytes::taken(&input[read..]);
-        if next.over {
-            break;
-        }
+        printed += one.printed;
+        read += one.read;
+        moved = one.read;
     }
     Pass {
         day: day,
         read: read,
         printed: printed,
+    }
+}
+
+// Reads the records at hand, and prints what came of them.
+fn print_all(begun: Day, input: &[u8], last: bool, out: &mut [u8]) -> Printed
+    ensures { λ r. ⌜ r .read ≤ length (now (input .entry)) ⌝ }
+{
+    let done = read_all(begun, input, last, out);
+    let day = done.day;
+    let printed = done.printed;
+    let wrote = io::write_all(STDOUT_FILENO, &out[..printed]);
+    Printed {
+        day: day,
+        read: done.read,
+        on: wrote & !day.over,
     }
 }
 
@@ -56,7 +97,12 @@ fn end(day: Day, out: &mut [u8]) {
     }
 }
 
-// Reads to the end of the input, of the run, or of the output.
+// Tells that the input cannot be read.
+fn complain() {
+    io::write_all(STDERR_FILENO, b"drill: the input cannot be read\n");
+}
+
+// Reads to the end of the input, of the run, or of the output. An input that cannot be read has no end, and so no last line.
 fn run(input: &mut [u8], out: &mut [u8]) {
     let mut day = day::begin();
     let mut hand = bytes::none();
@@ -66,27 +112,22 @@ fn run(input: &mut [u8], out: &mut [u8]) {
         turns -= 1;
         let at = hand.at;
         let filled = hand.filled;
-        let done = read_all(day, &input[at..filled], hand.last, out);
+        let done = print_all(day, &input[at..filled], hand.last, out);
         let next = done.day;
-        let printed = done.printed;
-        if io::write_all(STDOUT_FILENO, &out[..printed]) {
-            if next.over {
-                return;
-            }
-            let from = at + done.read;
-            if bytes::is_spent(&input[from..filled], hand.last) {
-                if hand.last {
-                    end(next, out);
-                    return;
-                }
-                hand = bytes::refill(input, from, filled);
-            } else {
-                hand.at = from;
-            }
-            day = next;
-        } else {
+        let from = at + done.read;
+        if !done.on {
             return;
         }
+        if hand.last & (from == filled) {
+            end(next, out);
+            return;
+        }
+        hand = bytes::more(input, hand, from);
+        if hand.failed {
+            complain();
+            return;
+        }
+        day = next;
     }
 }
 

@@ -10,11 +10,8 @@ use lib.ListN.{length, getD, take, drop, set, length-append}
 use lib.Seq.{drop-cons, drop-drop, getD-drop, sets}
 use Rattle.frame.proofs.Stores.{set-sets}
 use lib.Arith.{mod-mul, digits-div, digits-mod, digits-lt}
+use Rattle.frame.specs.Typed.{Bytes}
 use Rattle.frame.specs.Digits.{bytesOf, numberOf, unpack}
-
--- each place holds a byte
-abbrev pub Bytes : List ℕ → Type 0
-Bytes bs = (i : ℕ) → getD bs i 0 < 256
 
 -- a part of bytes is bytes
 pub bytes-drop : (n : ℕ) (bs : List ℕ) → Bytes bs → Bytes (drop n bs)
@@ -36,13 +33,13 @@ pow-le i j h = pow-le-pow-right (omega arith) h
 pub length-bytesOf : (w x : ℕ) → length (bytesOf w x) ≡ w
 unfolding bytesOf
 length-bytesOf zero x = refl
-length-bytesOf (suc w) x = ap suc (length-bytesOf w x)
+length-bytesOf (suc w) x = ap suc (length-bytesOf w _)
 
 pub bytesOf-bytes : (w x : ℕ) → Bytes (bytesOf w x)
 unfolding bytesOf
 bytesOf-bytes zero x i = omega arith
 bytesOf-bytes (suc w) x zero = omega arith
-bytesOf-bytes (suc w) x (suc i) = bytesOf-bytes w x i
+bytesOf-bytes (suc w) x (suc i) = bytesOf-bytes w _ i
 
 -- a number in w bytes keeps what w bytes can hold
 pub numberOf-bytesOf : (w x : ℕ) → numberOf (bytesOf w x) ≡ x % 256 ^ w

@@ -12,7 +12,8 @@ use lib.Seq.{sets, sets-eq}
 use lib.Dec.{eqb}
 use borrow.Author.Tests.{eq-eqb, eqb-true, ne-eqb, le-ltb, lt-ltb, not-false}
 use Rattle.common.proofs.TestLaws.{or-right, or-true, split}
-use Rattle.frame.specs.Frames.{Told, Values, body, frameBytes, frameValues, known, notAFrame, nothing, reading, table, total, writingOf, wrote}
+use Rattle.frame.specs.Frames.{Told, Values, body, frameBytes, frameValues, known, notAFrame}
+use Rattle.frame.specs.Frames.{nothing, reading, table, total, writingOf, wrote}
 use Rattle.frame.specs.declared.WriteAnswer.{WriteAnswer}
 use Rattle.frame.specs.declared.WriteAnswer.the-variants.{Written, TooShort}
 use Rattle.frame.specs.Digits.{bytesOf, numberOf, pack, sum, unpack}
@@ -77,7 +78,8 @@ unfolding body known sum
 reading-propose bs e l =
     reading-whole bs 2 e refl l ∙ simp (unpack-at, unpack-none, numberOf-byte bs 5 (omega arith), numberOf-byte bs 6 (omega arith))
 
-pub writing-short : (v : Values) (buf : List ℕ) → length buf < total (v .kind) → writingOf v buf ≡ record { answer = 2; written = 0; buffer = buf }
+pub writing-short : (v : Values) (buf : List ℕ) → length buf < total (v .kind)
+    → writingOf v buf ≡ record { answer = 2; written = 0; buffer = buf }
 unfolding writingOf
 writing-short v buf h = simp (lt-ltb _ _ h)
 
@@ -93,7 +95,8 @@ puts buf at (w ∷ ws) [] = buf
 puts buf at (w ∷ ws) (v ∷ vs) = puts (sets buf at (bytesOf w v)) (at + w) ws vs
 
 -- one put more, where the buffer and the place before it are known
-pub then-put : (w v : ℕ) {buf old new : List ℕ} {at place : ℕ} → old ≡ buf → place ≡ at → new ≡ sets old place (bytesOf w v) → new ≡ sets buf at (bytesOf w v)
+pub then-put : (w v : ℕ) {buf old new : List ℕ} {at place : ℕ} → old ≡ buf → place ≡ at → new ≡ sets old place (bytesOf w v)
+    → new ≡ sets buf at (bytesOf w v)
 then-put w v e p n = n ∙ ap₂ (λ l i. sets l i (bytesOf w v)) e p
 
 puts-pack : (buf : List ℕ) (at : ℕ) (ws vs : List ℕ) → puts buf at ws vs ≡ sets buf at (pack ws vs)
@@ -121,8 +124,14 @@ unfolding bytesOf
 kind-byte k h = ap (λ (n : ℕ). n ∷ []) (ap (λ (n : ℕ). n % 256) (div-one k) ∙ mod-eq-of-lt h)
 
 -- the frame is put by its kind and its numbers, in a buffer that is long enough
-pub writing-puts : (v : Values) (buf : List ℕ) → v .kind < 256 → length (v .numbers) ≡ length (body table (v .kind)) → total (v .kind) ≤ length buf
-    → record { answer = 0; written = total (v .kind); buffer = puts buf 0 (1 ∷ body table (v .kind)) (v .kind ∷ v .numbers) } ≡ writingOf v buf
+pub writing-puts : (v : Values) (buf : List ℕ) → v .kind < 256 → length (v .numbers) ≡ length (body table (v .kind))
+    → total (v .kind) ≤ length buf
+    → record {
+      answer = 0;
+      written = total (v .kind);
+      buffer = puts buf 0 (1 ∷ body table (v .kind))
+          (v .kind ∷ v .numbers);
+    } ≡ writingOf v buf
 unfolding pack
 writing-puts v buf small l fits =
     let body = body table (v .kind) in

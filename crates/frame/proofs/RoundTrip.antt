@@ -1,6 +1,6 @@
 -- Document 01, "Frames": reading a written frame gives back its values; an accepted frame written again gives its bytes.
 -- Assumes nothing.
-use Prim.Native.Nat.{ℕ, suc, _^_, _<_, _≤_}
+use Prim.Native.Nat.{ℕ, suc, _^_, _≤_}
 use mathlib.Core.Path.{_≡_, refl, ap, ap₂, sym, _∙_}
 use mathlib.Core.List.{List, [], _∷_, _++_}
 use mathlib.Core.Bool.{true, false}
@@ -11,12 +11,15 @@ use lib.Dec.{ltb}
 use borrow.Author.Tests.{lt-ltb, ltb-false, ltb-true}
 use Rattle.common.proofs.TestLaws.{and-left, and-right, both, split}
 use Rattle.frame.specs.Digits.{bytesOf, numberOf, pack, unpack, sum, fitting}
-use Rattle.frame.specs.Frames.{Values, body, frameBytes, frameValues, kindIn, known, notAFrame, reading, table, told, total, valuesOf, writing, writingOf}
+use Rattle.frame.specs.Typed.{Bytes, Typed}
+use Rattle.frame.specs.Frames.{Values, body, frameBytes, frameValues, kindIn, known, notAFrame}
+use Rattle.frame.specs.Frames.{reading, table, told, total, valuesOf, writing, writingOf}
 use Rattle.frame.specs.declared.Frame.{Frame}
 use Rattle.frame.specs.declared.Frame.the-variants.{Multicast, Propose}
 use Rattle.frame.specs.declared.ReadAnswer.the-variants.{Accepted}
-use Rattle.frame.proofs.DigitLaws.{Bytes, bytes-drop, bytes-take, bytesOf-numberOf, length-bytesOf, numberOf-kept}
-use Rattle.frame.proofs.FrameLaws.{length-frameBytes, notAFrame-exact, notAFrame-whole, reading-refused, reading-taken, reading-whole, writing-fits, writing-short}
+use Rattle.frame.proofs.DigitLaws.{bytes-drop, bytes-take, bytesOf-numberOf, length-bytesOf, numberOf-kept}
+use Rattle.frame.proofs.FrameLaws.{length-frameBytes, notAFrame-exact, notAFrame-whole, reading-refused}
+use Rattle.frame.proofs.FrameLaws.{reading-taken, reading-whole, writing-fits, writing-short}
 
 fitting-length : (ws vs : List ℕ) → fitting ws vs ≡ true → length vs ≡ length ws
 unfolding fitting
@@ -57,19 +60,14 @@ values-again v buf k f w =
     (λ t. let z : _≡_ {A = ℕ} 2 0 = sym (ap (λ o. o .answer) (writing-short v buf (ltb-true _ _ t))) ∙ w in absurd (omega arith))
     (λ t. let fits = writing-fits v buf (ltb-false _ _ t) in
     ap reading
-    (ap₂ take (ap (λ o. o .written) fits) (ap (λ o. o .buffer) fits) ∙ take-at (frameBytes v) (drop (total (v .kind)) buf) (total (v .kind)) size)
+    (ap₂ take (ap (λ o. o .written) fits) (ap (λ o. o .buffer) fits)
+    ∙ take-at (frameBytes v) (drop (total (v .kind)) buf) (total (v .kind)) size)
     ∙ reading-whole (frameBytes v) (v .kind) refl k size
     ∙ ap (λ ns. record { answer = 0; frame = record { kind = v .kind; numbers = ns } }) (unpack-pack (body table (v .kind)) (v .numbers) f))
 
 bytes-again : (bs : List ℕ) → Bytes bs → length bs ≡ total (kindIn bs) → frameBytes (frameValues bs) ≡ bs
 bytes-again [] h e = absurd (omega arith)
 bytes-again (b ∷ bs) h e = ap (λ cs. b ∷ cs) (pack-unpack (body table b) bs (λ i. h (suc i)) (omega arith))
-
--- what the types say of a frame's numbers
-abbrev pub Typed : Frame → Type 0
-Typed (Multicast payment destinations) = (payment .0 < 2 ^ 32) × (destinations < 2 ^ 8)
-Typed (Propose payment destinations source time) =
-    (payment .0 < 2 ^ 32) × (destinations < 2 ^ 8) × (source .0 < 2 ^ 8) × (time .0 < 2 ^ 16)
 
 typed-known : (f : Frame) → known table (valuesOf f .kind) ≡ true
 unfolding known
@@ -87,7 +85,8 @@ pub written-read : (frame : Frame) (buffer : List ℕ) → Typed frame → writi
 written-read frame buffer h w = values-again (valuesOf frame) buffer (typed-known frame) (typed-fitting frame h) w
 
 -- an accepted frame written again gives its bytes
-pub read-written : (bytes buffer : List ℕ) (frame : Frame) → Bytes bytes → told (Accepted frame) ≡ reading bytes → length bytes ≤ length buffer
+pub read-written : (bytes buffer : List ℕ) (frame : Frame) → Bytes bytes → told (Accepted frame) ≡ reading bytes
+    → length bytes ≤ length buffer
     → writing frame buffer ≡ record { answer = 0; written = length bytes; buffer = bytes ++ drop (length bytes) buffer }
 read-written bytes buffer frame h r l =
     split (notAFrame bytes)

@@ -1,6 +1,6 @@
 // Frames: the three number types that cannot be mixed up, and the reading and writing of frames (document 01, "Frames").
 ghost use mathlib.Core.Path.{_≡_};
-ghost use Prim.Native.Nat.{ℕ, _+_, _≤_, _<_};
+ghost use Prim.Native.Nat.{_+_, _≤_};
 ghost use lib.Seq.{sets};
 ghost use lib.ListN.{length};
 ghost use Rattle.frame.specs.Digits.{bytesOf, numberOf};
@@ -37,13 +37,13 @@ pub enum WriteAnswer {
     TooShort,
 }
 
-const MULTICAST: u8 = 1;
+pub const MULTICAST: u8 = 1;
 
 const MULTICAST_TOTAL: usize = 6;
 
-const PROPOSE: u8 = 2;
+pub const PROPOSE: u8 = 2;
 
-const PROPOSE_TOTAL: usize = 9;
+pub const PROPOSE_TOTAL: usize = 9;
 
 // The number that a part's bytes are, high byte first.
 fn number(part: &[u8]) -> u32

@@ -1,7 +1,2 @@
--- Laws of the definitions in specs/.
+-- Proofs of the functions that find a payment among those held.
 -- Assumes nothing.
-pub mod CheckedLaws
-pub mod FreeLaws
-pub mod PostLaws
-pub mod ReflectLaws
-pub mod Settled

@@ -13,6 +13,7 @@ use Rattle.payment.specs.declared.Payment.{Payment}
 abbrev pub limit : ℕ
 limit = 32
 
+-- what stands beyond the last place
 abbrev pub noPayment : Payment
 noPayment = record { number = record { 0 = 0 }; destinations = 0; heard = 0; times = []; phase = 0 }
 
@@ -32,6 +33,10 @@ placeOf payments number = first limit (isNumber payments number)
 abbrev pub holds : List Payment → ℕ → Bool
 holds payments number = ltb (placeOf payments number) limit
 
--- ledger k's time t is held for another payment than this number's, as a proposal or in a stamp
+-- the payment at a place has another number, and ledger k's time t is kept for it, as a proposal or in a stamp
+abbrev pub isForAnother : List Payment → ℕ → ℕ → ℕ → ℕ → Bool
+isForAnother payments number k t i = not (isNumber payments number i) && keeps (at payments i) k t
+
+-- ledger k's time t is held for another payment than this number's
 abbrev pub heldForAnother : List Payment → ℕ → ℕ → ℕ → Bool
-heldForAnother payments number k t = any limit (λ i. not (isNumber payments number i) && keeps (at payments i) k t)
+heldForAnother payments number k t = any limit (isForAnother payments number k t)

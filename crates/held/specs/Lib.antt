@@ -1,5 +1,3 @@
 -- What a reader must believe of the payments that a ledger holds.
 -- Assumes nothing.
 pub mod Held
-pub mod Posting
-pub mod Checked

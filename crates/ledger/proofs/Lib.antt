@@ -2,7 +2,8 @@
 -- Assumes nothing.
 pub mod StateLaws
 pub mod SoundLaws
-pub mod RefusalLaws
 pub mod StepLaws
 pub mod JudgeLaws
+pub mod Exactly
+pub mod Computing
 pub mod Settled

@@ -1,17 +1,18 @@
--- The clauses of soundness, each by its name, and the check of the code that puts some of them together.
+-- The clauses of soundness, each by its name, and the order in which the code checks them.
 -- Assumes nothing.
 use Prim.Native.Nat.{ℕ}
-use mathlib.Core.Path.{_≡_, refl, ap, sym, _∙_}
+use mathlib.Core.Path.{_≡_, refl, ap, ap₂, sym, _∙_}
 use mathlib.Core.Bool.{Bool, true, false, _&&_, _||_}
 use mathlib.Core.List.{List}
 use lib.Dec.{leb}
 use Rattle.common.specs.Places.{every}
 use Rattle.common.proofs.PlaceLaws.{every-all, every-at, every-same}
-use Rattle.common.proofs.TestLaws.{and-both, and-left, and-right, both, same, split}
-use Rattle.payment.specs.Right.{heardRight, lawful, notAboveClock, numberNotZero, numbersDiffer, timesDiffer, phaseRight}
+use Rattle.common.proofs.TestLaws.{and-both, and-false, and-left, and-right, same}
 use Rattle.payment.specs.declared.Payment.{Payment}
+use Rattle.right.specs.Right.{apart, heardRight, lawful, notAboveClock, numberNotZero, numbersDiffer, phaseRight, right, timesDiffer}
 use Rattle.held.specs.Held.{at, limit}
-use Rattle.held.specs.Checked.{apart, heldAll, heldPairs, noneFree, postedBelow, right, unusedAll}
+use Rattle.posting.specs.Posting.{noneFree}
+use Rattle.checked.specs.Checked.{heldAll, heldAt, heldPairs, postedBelow, unusedAll}
 use Rattle.ledger.specs.Sound.{each, inRange, pairs, sound}
 use Rattle.ledger.specs.declared.Ledger.{Ledger}
 
@@ -91,7 +92,7 @@ module _ (payments : List Payment) (count : ℕ) where
   pub all-and : (f g : Payment → Bool) → heldAll payments count (λ p. f p && g p) ≡ heldAll payments count f && heldAll payments count g
   all-and f g =
       every-same limit _ _ (λ i h. or-and (leb count i) (f (at payments i)) (g (at payments i)))
-      ∙ every-and limit (λ i. leb count i || f (at payments i)) (λ i. leb count i || g (at payments i))
+      ∙ every-and limit (heldAt payments count f) (heldAt payments count g)
 
   pub pairs-and : (f g : Payment → Payment → Bool)
       → heldPairs payments count (λ p q. f p q && g p q) ≡ heldPairs payments count f && heldPairs payments count g
@@ -101,10 +102,25 @@ module _ (payments : List Payment) (count : ℕ) where
       ∙ or-and (leb count i) _ _)
       ∙ every-and limit _ _
 
+-- from the code's order of the clauses to that of the rules
+reorder : (range number destinations heard clock phase numbers times used free posted : Bool)
+    → range && ((number && (destinations && (heard && (clock && phase)))) && ((numbers && times) && (used && (free && posted))))
+    ≡ range && (numbers && (number && (destinations && (heard && (used && (times && (clock && (phase && (free && posted)))))))))
+reorder false n d h c p m t u f b = refl
+reorder true false d h c p m t u f b = sym (and-false m)
+reorder true true false h c p m t u f b = sym (and-false m)
+reorder true true true false c p m t u f b = sym (and-false m)
+reorder true true true true false p m t u f b = sym (simp and-false)
+reorder true true true true true false m t u f b = sym (simp and-false)
+reorder true true true true true true false t u f b = refl
+reorder true true true true true true true false u f b = sym (and-false u)
+reorder true true true true true true true true u f b = refl
+
 module _ (l : Ledger) where
   -- the code's check of each held payment
   right-clauses : heldAll (l .payments) (l .count) (right (l .group) (l .own .0) (l .clock .0))
-      ≡ each l numberNotZero && (each l (lawful (l .group) (l .own .0)) && (each l heardRight && (each l (notAboveClock (l .own .0) (l .clock .0)) && each l (phaseRight (l .own .0)))))
+      ≡ each l numberNotZero && (each l (lawful (l .group) (l .own .0)) &&
+      (each l heardRight && (each l (notAboveClock (l .own .0) (l .clock .0)) && each l (phaseRight (l .own .0)))))
   right-clauses =
       let own = l .own .0 in
       let late : Payment → Bool = λ p. notAboveClock own (l .clock .0) p && phaseRight own p in
@@ -116,39 +132,17 @@ module _ (l : Ledger) where
       (all-and (l .payments) (l .count) heardRight late
       ∙ ap (λ b. each l heardRight && b) (all-and (l .payments) (l .count) (notAboveClock own (l .clock .0)) (phaseRight own))))
 
-  pub sound-right : Sound l → heldAll (l .payments) (l .count) (right (l .group) (l .own .0) (l .clock .0)) ≡ true
-  sound-right s = right-clauses ∙ and-both (s .kept .number) (and-both (s .kept .destinations) (and-both (s .kept .heard) (and-both (s .kept .clock) (s .kept .phase))))
-
-  pub sound-apart : Sound l → heldPairs (l .payments) (l .count) apart ≡ true
-  sound-apart s = pairs-and (l .payments) (l .count) numbersDiffer timesDiffer ∙ and-both (s .kept .numbers) (s .kept .times)
-
-  -- a check that every sound state passes is failed by no sound state
-  pub not-sound : {b : Bool} → (Sound l → b ≡ true) → b ≡ false → sound l ≡ false
-  not-sound f e = split (sound l) (λ t. both (f (clauses l t)) e) (λ t. t)
-
-  pub sound-all : inRange l ≡ true → heldAll (l .payments) (l .count) (right (l .group) (l .own .0) (l .clock .0)) ≡ true
-      → heldPairs (l .payments) (l .count) apart ≡ true → unusedAll (l .payments) (l .count) ≡ true → noneFree (l .payments) (l .own .0) ≡ true
-      → sound l ≡ postedBelow (l .payments) (l .own .0)
-  sound-all r e a u f =
-      let e₁ = sym right-clauses ∙ e in
-      let e₂ = and-right (each l numberNotZero) _ e₁ in
-      let e₃ = and-right (each l (lawful (l .group) (l .own .0))) _ e₂ in
-      let e₄ = and-right (each l heardRight) _ e₃ in
-      let a₁ = sym (pairs-and (l .payments) (l .count) numbersDiffer timesDiffer) ∙ a in
-      same (sound l) (postedBelow (l .payments) (l .own .0))
-      (λ t. clauses l t .kept .posted)
-      (λ t. sound-so l record {
-        kept = record {
-          range = r;
-          numbers = and-left (pairs l numbersDiffer) (pairs l timesDiffer) a₁;
-          number = and-left (each l numberNotZero) _ e₁;
-          destinations = and-left (each l (lawful (l .group) (l .own .0))) _ e₂;
-          heard = and-left (each l heardRight) _ e₃;
-          unused = u;
-          times = and-right (pairs l numbersDiffer) (pairs l timesDiffer) a₁;
-          clock = and-left (each l (notAboveClock (l .own .0) (l .clock .0))) _ e₄;
-          phase = and-right (each l (notAboveClock (l .own .0) (l .clock .0))) _ e₄;
-          posted = t;
-        };
-        free = f;
-      })
+  -- the checks of the code are the clauses of soundness
+  pub sound-checked : inRange l
+      && (heldAll (l .payments) (l .count) (right (l .group) (l .own .0) (l .clock .0))
+      && (heldPairs (l .payments) (l .count) apart
+      && (unusedAll (l .payments) (l .count) && (noneFree (l .payments) (l .own .0) && postedBelow (l .payments) (l .own .0)))))
+      ≡ sound l
+  unfolding sound
+  sound-checked =
+      ap₂ (λ a b. inRange l && (a && (b && (unusedAll (l .payments) (l .count) &&
+      (noneFree (l .payments) (l .own .0) && postedBelow (l .payments) (l .own .0))))))
+      right-clauses (pairs-and (l .payments) (l .count) numbersDiffer timesDiffer)
+      ∙ reorder (inRange l) (each l numberNotZero) (each l (lawful (l .group) (l .own .0))) (each l heardRight)
+      (each l (notAboveClock (l .own .0) (l .clock .0))) (each l (phaseRight (l .own .0))) (pairs l numbersDiffer) (pairs l timesDiffer)
+      (unusedAll (l .payments) (l .count)) (noneFree (l .payments) (l .own .0)) (postedBelow (l .payments) (l .own .0))

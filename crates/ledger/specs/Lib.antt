@@ -2,5 +2,5 @@
 -- Assumes nothing.
 pub mod State
 pub mod Sound
-pub mod Refusals
+pub mod Table
 pub mod Step

@@ -3,17 +3,18 @@
 -- Assumes nothing.
 use mathlib.Core.Bool.{Bool, _&&_}
 use lib.Dec.{leb}
+use Rattle.ledgers.specs.Ledgers.{isLedgerOf}
 use Rattle.payment.specs.Payments.{lastTime}
-use Rattle.payment.specs.Right.{heardRight, lawful, notAboveClock, numberNotZero, numbersDiffer, timesDiffer, phaseRight}
+use Rattle.right.specs.Right.{heardRight, lawful, notAboveClock, numberNotZero, numbersDiffer, timesDiffer, phaseRight}
 use Rattle.payment.specs.declared.Payment.{Payment}
 use Rattle.held.specs.Held.{limit}
-use Rattle.held.specs.Checked.{heldAll, heldPairs, noneFree, postedBelow, unusedAll}
-use Rattle.ledger.specs.State.{lawfulSetUp}
+use Rattle.posting.specs.Posting.{noneFree}
+use Rattle.checked.specs.Checked.{heldAll, heldPairs, postedBelow, unusedAll}
 use Rattle.ledger.specs.declared.Ledger.{Ledger}
 
 -- N, own number, clock and count are in range
 abbrev pub inRange : Ledger → Bool
-inRange l = lawfulSetUp (l .group) (l .own .0) && (leb (l .clock .0) lastTime && leb (l .count) limit)
+inRange l = isLedgerOf (l .group) (l .own .0) && (leb (l .clock .0) lastTime && leb (l .count) limit)
 
 -- of each held payment
 abbrev pub each : Ledger → (Payment → Bool) → Bool

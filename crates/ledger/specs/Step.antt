@@ -1,39 +1,36 @@
 -- Document 01, "The step": rules 1 to 4, and what a call hands back.
 -- Assumes nothing.
-use Prim.Native.Nat.{ℕ, _+_, max}
+use Prim.Native.Nat.{ℕ, _+_, _<_, _≤_, max}
+use mathlib.Core.Path.{_≡_}
 use mathlib.Core.List.{List}
-use mathlib.Core.Bool.{cond}
+use mathlib.Core.Bool.{Bool, cond}
 use lib.ListN.{set}
 use lib.Dec.{eqb}
 use Rattle.frame.specs.Frames.{frameValues, writing}
 use Rattle.frame.specs.declared.Frame.the-variants.{Propose}
 use Rattle.frame.specs.declared.Time.{Time}
-use Rattle.payment.specs.Ledgers.{howMany, without}
-use Rattle.payment.specs.Payments.{allHeard, hear, proposed, stampOf, stamped}
+use Rattle.ledgers.specs.Ledgers.{howMany, without}
+use Rattle.payment.specs.Payments.{allHeard, hear, inPhase, lastTime, proposed, stampOf, stamped}
 use Rattle.payment.specs.declared.Payment.{Payment}
-use Rattle.held.specs.Held.{at, placeOf}
-use Rattle.held.specs.Posting.{written}
-use Rattle.ledger.specs.State.{newPayment}
-use Rattle.ledger.specs.Refusals.{answerTo, firstGiven, heldOne, incoming, isHeld, isPropose, judged}
-use Rattle.ledger.specs.declared.Incoming.{Incoming}
+use Rattle.held.specs.Held.{at, limit}
+use Rattle.posting.specs.Posting.{written}
+use Rattle.refusals.specs.Refusals.{incoming, isHeld, isPropose, paymentIn, placeIn}
+use Rattle.refusals.specs.declared.Incoming.{Incoming}
+use Rattle.refusals.specs.declared.Judged.{Judged}
+use Rattle.ledger.specs.Table.{answerTo}
 use Rattle.ledger.specs.declared.Ledger.{Ledger}
 use Rattle.ledger.specs.declared.PostedLedger.{PostedLedger}
 use Rattle.ledger.specs.declared.Step.{Step}
 
--- take the payment in if it isn't held: the payment, its place (a new one goes to the first unused place, which in a sound state
--- is the one after the held ones), and the count
+-- take the payment in if it isn't held: the payment, its place, and the count
 abbrev pub paymentFor : Ledger → Incoming → Payment
-paymentFor l f = cond (isHeld l f) (heldOne l f) (newPayment (f .payment .0) (f .destinations))
+paymentFor l f = paymentIn (l .payments) f
 
 abbrev pub placeFor : Ledger → Incoming → ℕ
-placeFor l f = cond (isHeld l f) (placeOf (l .payments) (f .payment .0)) (l .count)
+placeFor l f = placeIn (l .count) (l .payments) f
 
 abbrev pub countFor : Ledger → Incoming → ℕ
-countFor l f = cond (isHeld l f) (l .count) (l .count + 1)
-
-abbrev pub inPhase : ℕ → Payment → Payment
-inPhase phase p =
-    record { number = p .number; destinations = p .destinations; heard = p .heard; times = p .times; phase = phase }
+countFor l f = cond (isHeld (l .payments) f) (l .count) (l .count + 1)
 
 -- the ledger with the frame's payment kept so, and this clock
 abbrev pub keeping : Ledger → Incoming → Time → Payment → Ledger
@@ -62,7 +59,7 @@ abbrev pub afterHearing : Ledger → Incoming → Ledger
 afterHearing l f = cond (isPropose f) (proposeRule l f) (multicastRule l f)
 
 -- rule 3: once every destination of the payment is heard, it is stamped with the greatest proposal, and the clock becomes the
--- larger of itself and the stamp's time (a payment stamped before never comes here: its frames answer 8 or 9)
+-- larger of itself and the stamp's time (a payment stamped before never comes here: no frame of it is taken)
 unfoldable pub stampRule : Ledger → ℕ → Ledger
 stampRule l i =
     let p = at (l .payments) i in
@@ -131,14 +128,33 @@ outcome r outgoing list =
       list = list;
     }
 
--- answers 1 to 11 return the state unchanged, no recipients, counts 0, buffers untouched
-abbrev pub refused : Ledger → ℕ → List ℕ → List ℕ → Outcome
-refused l answer outgoing list =
-    record { state = l; answer = answer; recipients = 0; copies = 0; postings = 0; outgoing = outgoing; list = list }
-
--- for the code: a refusal without the buffers
+-- what a refusal hands back: the state unchanged, no recipients, counts 0
 abbrev pub refusing : Ledger → ℕ → Step
 refusing l answer = record { state = l; answer = answer; recipients = 0; copies = 0; postings = 0 }
+
+-- and it leaves both buffers as they were
+abbrev pub refused : Ledger → ℕ → List ℕ → List ℕ → Outcome
+refused l answer outgoing list = outcome (refusing l answer) outgoing list
+
+-- for the code: what is known of a frame that no refusal applies to
+pub record MayTake (l : Ledger) (j : Judged) : Type 0 where
+  pub held : j .held ≡ isHeld (l .payments) (j .frame)
+  pub place : j .place ≡ placeFor l (j .frame)
+  pub payment : j .payment ≡ paymentFor l (j .frame)
+  pub room : placeFor l (j .frame) < limit
+  pub count : l .count ≤ limit
+  pub clock : l .clock .0 ≤ lastTime
+
+-- for the code: the ledger with a payment kept at a place, and counted if it was not held
+abbrev pub keptAt : Ledger → ℕ → Bool → Payment → Ledger
+keptAt l place held p =
+    record {
+      group = l .group;
+      own = l .own;
+      clock = l .clock;
+      count = cond held (l .count) (l .count + 1);
+      payments = set (l .payments) place p;
+    }
 
 -- a frame that is taken: rules 1 to 4
 abbrev pub taken : Ledger → Incoming → List ℕ → List ℕ → Outcome
@@ -153,12 +169,6 @@ taken l f outgoing list =
       outgoing = sent l f outgoing;
       list = after .list;
     }
-
--- for the code: a frame that was read, judged by rows 4 to 11 alone
-unfoldable pub judging : Ledger → Incoming → List ℕ → List ℕ → Outcome
-judging l f outgoing list =
-    let answer = firstGiven (judged l f) in
-    cond (eqb answer 0) (taken l f outgoing list) (refused l answer outgoing list)
 
 -- the step: taken where no row of the whole table applies, and else the answer of the first that does
 unfoldable pub step : Ledger → List ℕ → List ℕ → List ℕ → Outcome

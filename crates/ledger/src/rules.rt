@@ -1,85 +1,57 @@
 // Rules 1 to 4.
-use crate::Incoming;
 use crate::Ledger;
-use crate::PROPOSE;
 use crate::PostedLedger;
 use crate::Step;
-use crate::later;
-use crate::new_payment;
 use frame::Frame;
+use frame::PROPOSE;
 use frame::Time;
 use held::HELD;
 use payment::Payment;
+use refusals::Incoming;
+use refusals::Judged;
 ghost use mathlib.Core.Path.{_≡_};
-ghost use mathlib.Core.Bool.{not};
 ghost use lib.ListN.{length};
-ghost use Prim.Native.Nat.{_+_, _≤_, _<_};
+ghost use Prim.Native.Nat.{_≤_, _<_};
 ghost use Rattle.payment.specs.Payments.{lastTime};
-ghost use Rattle.held.specs.Held.{limit, placeOf};
-ghost use Rattle.ledger.specs.Step.{countFor, left, multicastRule, outcome, paymentFor, placeFor, proposeRule, afterHearing, recipientsOf, sent, postRule, stampRule, taken};
+ghost use Rattle.held.specs.Held.{limit};
+ghost use Rattle.ledger.specs.Step.{MayTake, afterHearing, keptAt, left, multicastRule, outcome};
+ghost use Rattle.ledger.specs.Step.{postRule, proposeRule, recipientsOf, sent, stampRule, taken};
 
 impl Ledger {
-    // The frame's payment: the one that is held, or a new one.
-    fn payment_for(self, f: Incoming, found: usize) -> Payment
-        requires { ⌜ found ≡ placeOf (self .payments) (f .payment .0) ⌝ }
-        ensures { λ r. ⌜ r ≡ paymentFor self f ⌝ }
+    // The frame's payment is kept at its place; a new one is counted.
+    fn keep(mut self, place: usize, held: bool, p: Payment) -> Ledger
+        requires { ⌜ (place < limit) × (self .count ≤ limit) ⌝ }
+        ensures { λ r. ⌜ r ≡ keptAt self place held p ⌝ }
     {
-        if found < HELD {
-            let p = self.payments[found];
-            return p;
+        self.payments[place] = p;
+        if held {
+            return self;
         }
-        new_payment(f.payment, f.destinations)
-    }
-
-    // Its place: a new one goes to the first unused place.
-    fn place_for(self, f: Incoming, found: usize) -> usize
-        requires { ⌜ found ≡ placeOf (self .payments) (f .payment .0) ⌝ }
-        ensures { λ r. ⌜ r ≡ placeFor self f ⌝ }
-    {
-        if found < HELD {
-            return found;
-        }
-        self.count as usize
-    }
-
-    // How many are held with it.
-    fn count_for(self, f: Incoming, found: usize) -> u16
-        requires { ⌜ (found ≡ placeOf (self .payments) (f .payment .0)) × (self .count ≤ limit) ⌝ }
-        ensures { λ r. ⌜ r ≡ countFor self f ⌝ }
-    {
-        if found < HELD {
-            return self.count;
-        }
-        self.count + 1
+        self.count = self.count + 1;
+        self
     }
 
     // Rule 1: the clock rises by 1 and is the own time.
-    fn multicast(mut self, f: Incoming, found: usize) -> Ledger
-        requires { ⌜ (found ≡ placeOf (self .payments) (f .payment .0)) × (self .count ≤ limit) × (placeFor self f < limit) × (self .clock .0 ≤ lastTime) ⌝ }
-        ensures { λ r. ⌜ r ≡ multicastRule self f ⌝ }
+    fn multicast(mut self, judged: Judged) -> Ledger
+        requires { ⌜ MayTake self judged ⌝ }
+        ensures { λ r. ⌜ r ≡ multicastRule self (judged .frame) ⌝ }
     {
         let time = Time(self.clock.0 + 1);
-        let place = self.place_for(f, found);
-        let count = self.count_for(f, found);
-        let mut p = self.payment_for(f, found).hear(self.own, time);
-        p.phase = payment::PROPOSED;
+        let p = judged.payment;
+        let mut heard = p.hear(self.own, time);
+        heard.phase = payment::PROPOSED;
         self.clock = time;
-        self.count = count;
-        self.payments[place] = p;
-        self
+        self.keep(judged.place, judged.held, heard)
     }
 
     // Rule 2: the source's time is kept.
-    fn propose(mut self, f: Incoming, found: usize) -> Ledger
-        requires { ⌜ (found ≡ placeOf (self .payments) (f .payment .0)) × (self .count ≤ limit) × (placeFor self f < limit) × (self .clock .0 ≤ lastTime) ⌝ }
-        ensures { λ r. ⌜ r ≡ proposeRule self f ⌝ }
+    fn propose(mut self, judged: Judged) -> Ledger
+        requires { ⌜ MayTake self judged ⌝ }
+        ensures { λ r. ⌜ r ≡ proposeRule self (judged .frame) ⌝ }
     {
-        let place = self.place_for(f, found);
-        let count = self.count_for(f, found);
-        let p = self.payment_for(f, found).hear(f.source, f.time);
-        self.count = count;
-        self.payments[place] = p;
-        self
+        let p = judged.payment;
+        let f = judged.frame;
+        self.keep(judged.place, judged.held, p.hear(f.source, f.time))
     }
 
     // Rule 3: once every destination is heard, the payment is stamped, and the clock becomes the larger of itself and the stamp's time.
@@ -89,7 +61,7 @@ impl Ledger {
     {
         let mut p = self.payments[place];
         if p.heard == p.destinations {
-            let clock = later(self.clock, p.stamp().time);
+            let clock = payment::later(self.clock, p.stamp().time);
             p.phase = payment::STAMPED;
             self.clock = clock;
             self.payments[place] = p;
@@ -103,7 +75,7 @@ impl Ledger {
         ensures { λ r. ⌜ left r (now (list .exit)) ≡ postRule self (now (list .entry)) ⌝ }
     {
         let payments = self.payments;
-        let done = held::post(payments, self.own, list);
+        let done = posting::post(payments, self.own, list);
         let after = done.payments;
         self.payments = after;
         PostedLedger {
@@ -119,7 +91,7 @@ impl Ledger {
         if f.kind == PROPOSE {
             return 0;
         }
-        payment::others(f.destinations, self.own)
+        ledgers::others(f.destinations, self.own)
     }
 
     // Writes this ledger's PROPOSE, where there are recipients.
@@ -130,48 +102,44 @@ impl Ledger {
         if recipients != 0 {
             let payment = f.payment;
             let source = self.own;
-            let own = Frame::Propose {
+            let propose = Frame::Propose {
                 payment: payment,
                 destinations: f.destinations,
                 source: source,
                 time: Time(self.clock.0 + 1),
             };
-            frame::write(own, outgoing);
+            frame::write(propose, outgoing);
         }
     }
 
     // Rules 1 and 2.
-    fn receive(mut self, f: Incoming, found: usize) -> Ledger
-        requires { ⌜ (found ≡ placeOf (self .payments) (f .payment .0)) × (self .count ≤ limit) × (placeFor self f < limit) × (self .clock .0 ≤ lastTime) ⌝ }
-        ensures { λ r. ⌜ r ≡ afterHearing self f ⌝ }
+    fn after_hearing(mut self, judged: Judged) -> Ledger
+        requires { ⌜ MayTake self judged ⌝ }
+        ensures { λ r. ⌜ r ≡ afterHearing self (judged .frame) ⌝ }
     {
-        if f.kind == PROPOSE {
-            return self.propose(f, found);
+        if judged.frame.kind == PROPOSE {
+            return self.propose(judged);
         }
-        self.multicast(f, found)
+        self.multicast(judged)
     }
 
     // A frame that no refusal applies to: rules 1 to 4.
-    pub(crate) fn take(
-        mut self,
-        f: Incoming,
-        found: usize,
-        outgoing: &mut [u8],
-        postings: &mut [u32],
-    ) -> Step
-        requires { ⌜ (found ≡ placeOf (self .payments) (f .payment .0)) × (self .count ≤ limit) × (placeFor self f < limit) × (self .clock .0 ≤ lastTime) × (limit ≤ length (now postings)) ⌝ }
-        ensures { λ r. ⌜ outcome r (now (outgoing .exit)) (now (postings .exit)) ≡ taken self f (now (outgoing .entry)) (now (postings .entry)) ⌝ }
+    pub(crate) fn take(mut self, judged: Judged, outgoing: &mut [u8], postings: &mut [u32]) -> Step
+        requires { ⌜ MayTake self judged × (limit ≤ length (now postings)) ⌝ }
+        ensures { λ r. ⌜ outcome r (now (outgoing .exit)) (now (postings .exit)) ≡ taken self (judged .frame) (now (outgoing .entry)) (now (postings .entry)) ⌝ }
     {
+        let f = judged.frame;
         let recipients = self.recipients(f);
         self.send(f, recipients, outgoing);
-        let place = self.place_for(f, found);
-        let settled = self.receive(f, found).stamp(place).post(postings);
+        let settled = self.after_hearing(judged)
+            .stamp(judged.place)
+            .post(postings);
         let state = settled.state;
         Step {
             state: state,
             answer: 0,
             recipients: recipients,
-            copies: payment::how_many(recipients),
+            copies: ledgers::how_many(recipients),
             postings: settled.count,
         }
     }

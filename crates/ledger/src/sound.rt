@@ -1,6 +1,5 @@
 // Whether a ledger's state is sound.
 use crate::Ledger;
-use crate::is_group;
 use held::HELD;
 ghost use mathlib.Core.Path.{_≡_};
 ghost use Rattle.ledger.specs.Sound.{inRange, sound};
@@ -9,33 +8,19 @@ impl Ledger {
     fn in_range(self) -> bool
         ensures { λ r. ⌜ r ≡ inRange self ⌝ }
     {
-        if is_group(self.group, self.own) {
-            if self.clock.0 <= payment::LAST_TIME {
-                return self.count as usize <= HELD;
-            }
-        }
-        false
+        ledgers::is_ledger_of(self.group, self.own)
+            & ((self.clock.0 <= payment::LAST_TIME) & (self.count as usize <= HELD))
     }
 
     pub(crate) fn is_sound(self) -> bool
         ensures { λ r. ⌜ r ≡ sound self ⌝ }
     {
         let payments = self.payments;
-        if self.in_range() {} else {
-            return false;
-        }
-        if held::all_right(payments, self.count, self.group, self.own, self.clock) {} else {
-            return false;
-        }
-        if held::all_apart(payments, self.count) {} else {
-            return false;
-        }
-        if held::rest_unused(payments, self.count) {} else {
-            return false;
-        }
-        if held::none_free(payments, self.own) {} else {
-            return false;
-        }
-        held::all_behind(payments, self.own)
+        let each = checked::held_all(payments, self.count, self.group, self.own, self.clock);
+        let pairs = checked::held_pairs(payments, self.count);
+        let unused = checked::unused_all(payments, self.count);
+        let none_free = posting::none_free(payments, self.own);
+        let below = checked::posted_below(payments, self.own);
+        self.in_range() & (each & (pairs & (unused & (none_free & below))))
     }
 }

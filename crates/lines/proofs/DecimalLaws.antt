@@ -1,19 +1,18 @@
 -- Laws of decimal digits.
 -- Assumes nothing.
 use Prim.Native.Nat.{ℕ, zero, suc, _+_, _/_, _%_, _<_, _≤_, _^_}
-use mathlib.Core.Path.{_≡_, ap, ap₂, sym, _∙_, subst}
+use mathlib.Core.Path.{_≡_, ap, sym, _∙_, subst}
 use mathlib.Core.List.{List, [], _∷_, _++_}
 use native.Mathlib.Nat.{pow-suc}
 use native.Mathlib.Omega.{arith}
 use borrow.Author.Tests.{le-ltb, lt-ltb, ltb-false, ltb-true}
 use lib.Dec.{ltb}
-use lib.ListN.{length, drop, length-append, length-set, set}
-use lib.Seq.{append-snoc, drop-cons, drop-set-lt, getD-set-same}
+use lib.ListN.{length, length-append}
 use mathlib.Core.Logic.{⊎-elim}
 use Rattle.common.specs.Places.{In}
 use Rattle.common.proofs.MemberLaws.{in-append}
 use Rattle.common.proofs.TestLaws.{split}
-use Rattle.lines.specs.Decimal.{digit, digits}
+use Rattle.lines.specs.Decimal.{decimal, digit, digits}
 
 pub digits-one : (k n : ℕ) → n < 10 → digits (suc k) n ≡ digit n ∷ []
 unfolding digits
@@ -31,37 +30,24 @@ length-digits (suc k) n =
     (λ t. simp t (omega arith))
     (λ t. simp (t, length-append) (let less = length-digits k (n / 10) in omega arith))
 
--- a store at a place, and what stands from there on
-pub drop-stored : (ds : List ℕ) (j v : ℕ) → j < length ds → drop j (set ds j v) ≡ v ∷ drop (suc j) ds
-drop-stored ds j v h =
-    drop-cons (set ds j v) j 0 (rw length-set h)
-    ∙ ap₂ (λ (x : ℕ) (l : List ℕ). x ∷ l) (getD-set-same ds j v 0 h) (drop-set-lt (suc j) ds j v (omega arith))
-
--- the digits are found from the lowest on: those of the rest stand before those in the list
-module _ (all ds : List ℕ) (i j rest : ℕ) (e : i ≡ suc j) (h : j < length ds) (so : all ≡ digits i rest ++ drop i ds) where
-  so-far : all ≡ digits (suc j) rest ++ drop (suc j) ds
-  so-far = so ∙ ap (λ (m : ℕ). digits m rest ++ drop m ds) e
-
-  pub digits-turn : 10 ≤ rest → all ≡ digits j (rest / 10) ++ drop j (set ds j (digit (rest % 10)))
-  digits-turn more =
-      so-far
-      ∙ ap (λ (l : List ℕ). l ++ drop (suc j) ds) (digits-more j rest more)
-      ∙ append-snoc (digits j (rest / 10)) (digit (rest % 10)) (drop (suc j) ds)
-      ∙ ap (λ (l : List ℕ). digits j (rest / 10) ++ l) (sym (drop-stored ds j (digit (rest % 10)) h))
-
-  pub digits-last : rest < 10 → drop j (set ds j (digit rest)) ≡ all
-  digits-last less =
-      drop-stored ds j (digit rest) h
-      ∙ sym (so-far ∙ ap (λ (l : List ℕ). l ++ drop (suc j) ds) (digits-one j rest less))
-
--- a number of more than one digit has a second place
-pub two-places : (i rest : ℕ) → rest < 10 ^ i → 10 ≤ rest → 2 ≤ i
-two-places zero rest h more = absurd (omega arith)
-two-places (suc zero) rest h more = absurd (omega arith)
-two-places (suc (suc i)) rest h more = omega arith
-
 pub tenth-less : (j rest : ℕ) → rest < 10 ^ suc j → rest / 10 < 10 ^ j
 tenth-less j rest h = let e = pow-suc 10 j in omega arith
+
+-- a number with places enough has the same digits with one place more
+digits-enough : (k n : ℕ) → n < 10 ^ suc k → digits (suc (suc k)) n ≡ digits (suc k) n
+digits-enough zero n h = digits-one 1 n (omega arith) ∙ sym (digits-one 0 n (omega arith))
+digits-enough (suc k) n h =
+    split (ltb n 10)
+    (λ t. let less = ltb-true _ _ t in digits-one (suc (suc k)) n less ∙ sym (digits-one (suc k) n less))
+    (λ t. let more = ltb-false _ _ t in
+    digits-more (suc (suc k)) n more
+    ∙ ap (λ (l : List ℕ). l ++ (digit (n % 10) ∷ [])) (digits-enough k (n / 10) (tenth-less (suc k) n h))
+    ∙ sym (digits-more (suc k) n more))
+
+-- the digits of the tenth part, and then the last one
+pub decimal-more : (n : ℕ) → n < 2 ^ 64 → 10 ≤ n → decimal (n / 10) ++ (digit (n % 10) ∷ []) ≡ decimal n
+decimal-more n h more =
+    ap (λ (l : List ℕ). l ++ (digit (n % 10) ∷ [])) (digits-enough 18 (n / 10) (omega arith)) ∙ sym (digits-more 19 n more)
 
 -- every byte is a digit, `0` to `9`
 pub digits-are : (k n b : ℕ) → In b (digits k n) → (48 ≤ b) × (b ≤ 57)

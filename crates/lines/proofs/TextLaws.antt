@@ -6,6 +6,8 @@ use mathlib.Core.List.{List, [], _∷_, _++_, map, append-assoc, append-nil, map
 use native.Mathlib.Numerals.{add-one}
 use native.Mathlib.Omega.{arith}
 use lib.ListN.{getD, length, length-append, take}
+use mir.Syntax.{w32, w64}
+use mir.Val.{Fits}
 use lib.Seq.{length-sets, set-out, sets, take-all, take-suc}
 use borrow.Author.Tests.{leb-false, leb-true}
 use lib.Dec.{leb}
@@ -20,7 +22,8 @@ pub none : (o : List ℕ) (at : ℕ) → Stands o at [] o at
 none o at = record { placed = refl; reached = omega arith }
 
 -- text behind text
-pub then : {o mid new : List ℕ} {at k next : ℕ} (s t : List ℕ) → Stands o at s mid k → Stands mid k t new next → Stands o at (s ++ t) new next
+pub then : {o mid new : List ℕ} {at k next : ℕ} (s t : List ℕ) → Stands o at s mid k → Stands mid k t new next
+    → Stands o at (s ++ t) new next
 then {o} {mid} {new} {at} {k} {next} s t a b =
     record {
       placed = b .placed ∙ ap₂ (λ (l : List ℕ) (i : ℕ). sets l i t) (a .placed) (a .reached) ∙ sym (sets-append o at s t);
@@ -38,6 +41,10 @@ kept {o} {new} {at} {next} {s} a = ap length (a .placed) ∙ length-sets o at s
 -- a byte that has no place
 pub dropped : (o : List ℕ) (at byte : ℕ) → length o ≤ at → Stands o at (byte ∷ []) o (at + 1)
 dropped o at byte h = record { placed = sym (set-out o at byte h); reached = refl }
+
+-- a number of 32 bits is one of 64
+pub wide : {x : ℕ} → Fits w32 x → Fits w64 x
+wide f = record { fits = omega (arith, f .fits) }
 
 -- a whole line
 pub whole : {o new : List ℕ} {next : ℕ} (text : List ℕ) → Stands o 0 text new next → wrote next new ≡ writing text o
@@ -57,7 +64,8 @@ step-line first answer items = simp append-assoc
 pub spaced-append : (xs ys : List (List ℕ)) → spaced (xs ++ ys) ≡ spaced xs ++ spaced ys
 unfolding spaced
 spaced-append [] ys = refl
-spaced-append (x ∷ xs) ys = ap (λ (l : List ℕ). 32 ∷ l) (ap (λ (l : List ℕ). x ++ l) (spaced-append xs ys) ∙ sym (append-assoc x (spaced xs) (spaced ys)))
+spaced-append (x ∷ xs) ys = ap (λ (l : List ℕ). 32 ∷ l) (ap (λ (l : List ℕ). x ++ l) (spaced-append xs ys)
+    ∙ sym (append-assoc x (spaced xs) (spaced ys)))
 
 pub spaced-more : (f : ℕ → List ℕ) (list : List ℕ) (i : ℕ) → i < length list
     → spaced (map f (take i list)) ++ (32 ∷ f (getD list i 0)) ≡ spaced (map f (take (i + 1) list))

@@ -39,7 +39,7 @@ abbrev pub lineOf : List ℕ → List (List ℕ) → List ℕ
 lineOf first others = first ++ (spaced others ++ (10 ∷ []))
 
 -- what is printed of a record: of a set-up `GROUP` and N; of a step `L` with the target, `A` with the answer, then `P` with
--- each payment posted, in order (a step posts no more than the limit: held/PostLaws.numbers-few); of one that ends the run `STOP` and the offset of its first byte
+-- each payment posted, in order (a step posts no more than the limit: posting/PostLaws.numbers-few); of one that ends the run `STOP` and the offset of its first byte
 abbrev pub printed : Did → ℕ → List ℕ → List ℕ
 printed (SetUp n) offset list = lineOf group (decimal n ∷ [])
 printed (Step ledger given postings) offset list =

@@ -3,7 +3,7 @@ use held::HELD;
 use records::Did;
 ghost use mathlib.Core.Path.{_≡_};
 ghost use mathlib.Core.List.{[], _∷_, map};
-ghost use Prim.Native.Nat.{_≤_, min};
+ghost use Prim.Native.Nat.{_+_, _*_, _≤_, min};
 ghost use lib.ListN.{length, take};
 ghost use Rattle.held.specs.Held.{limit};
 ghost use Rattle.lines.specs.Decimal.{decimal};
@@ -13,6 +13,8 @@ ghost use Rattle.lines.specs.Standing.{Stands};
 const SPACE: u8 = 32;
 
 const LINE_END: u8 = 10;
+
+const ZERO: u8 = 48;
 
 // Puts a byte at a place, if the buffer has it, and gives the place after it.
 fn put(out: &mut [u8], at: usize, byte: u8) -> usize
@@ -39,28 +41,24 @@ fn text(out: &mut [u8], at: usize, bytes: &[u8]) -> usize
     next
 }
 
-// Puts a number in decimal from a place on.
+// Puts a number in decimal from a place on: what stands before the last digit, and then that digit.
 fn number(out: &mut [u8], at: usize, n: u64) -> usize
     requires { ⌜ at ≤ 2048 ⌝ }
-    ensures { λ r. ⌜ Stands (now (out .entry)) at (decimal n) (now (out .exit)) r ⌝ }
+    ensures stands { λ r. ⌜ Stands (now (out .entry)) at (decimal n) (now (out .exit)) r ⌝ }
+    ensures short { λ r. ⌜ r ≤ at + 20 ⌝ }
 {
-    let mut digits = [0u8; 20];
-    let mut i: usize = 20;
-    let mut rest = n;
-    while 9 < rest {
-        i -= 1;
-        digits[i] = 48 + (rest % 10) as u8;
-        rest = rest / 10;
+    if n < 10 {
+        return put(out, at, ZERO + n as u8);
     }
-    i -= 1;
-    digits[i] = 48 + rest as u8;
-    text(out, at, &digits[i..])
+    let next = number(out, at, n / 10);
+    put(out, next, ZERO + (n % 10) as u8)
 }
 
 // Puts an item from a place on: a space, a letter, and a number.
 fn item(out: &mut [u8], at: usize, letter: u8, n: u64) -> usize
     requires { ⌜ at ≤ 2000 ⌝ }
-    ensures { λ r. ⌜ Stands (now (out .entry)) at (32 ∷ letter ∷ decimal n) (now (out .exit)) r ⌝ }
+    ensures stands { λ r. ⌜ Stands (now (out .entry)) at (32 ∷ letter ∷ decimal n) (now (out .exit)) r ⌝ }
+    ensures short { λ r. ⌜ r ≤ at + 22 ⌝ }
 {
     let after = put(out, at, SPACE);
     let begun = put(out, after, letter);
@@ -72,7 +70,8 @@ fn postings(out: &mut [u8], at: usize, list: &[u32], count: usize) -> usize
     requires { ⌜ at ≤ 1000 ⌝ }
     requires { ⌜ count ≤ limit ⌝ }
     requires { ⌜ count ≤ length (now list) ⌝ }
-    ensures { λ r. ⌜ Stands (now (out .entry)) at (spaced (map posting (take count (now (list .entry))))) (now (out .exit)) r ⌝ }
+    ensures stands { λ r. ⌜ Stands (now (out .entry)) at (spaced (map posting (take count (now (list .entry))))) (now (out .exit)) r ⌝ }
+    ensures short { λ r. ⌜ r ≤ at + 22 * limit ⌝ }
 {
     let mut next = at;
     for i in 0..count {

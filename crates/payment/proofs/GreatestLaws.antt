@@ -10,7 +10,7 @@ use borrow.Author.Tests.{ltb-false, ltb-true}
 use Rattle.common.proofs.PlaceLaws.{last-or-before}
 use Rattle.common.proofs.TestLaws.{and-go, and-left, and-right, split}
 use Rattle.frame.specs.declared.Time.{Time}
-use Rattle.payment.specs.Ledgers.{has}
+use Rattle.ledgers.specs.Ledgers.{has}
 use Rattle.payment.specs.Payments.{greatest, heardFrom, proposal, stampOf, timeFrom, timeIn}
 use Rattle.payment.specs.Stamps.{below}
 use Rattle.payment.specs.declared.Payment.{Payment}
@@ -34,13 +34,15 @@ module _ (times : List Time) (heard : ℕ) where
   greatest-ledger zero = omega arith
   greatest-ledger (suc n) = next (λ s. s .ledger .0 ≤ suc n) n (λ t. omega arith) (λ t. let h = greatest-ledger n in omega arith)
 
-  pub greatest-above : (n : ℕ) → n < 256 → (k : ℕ) → k < n → has heard (suc k) ≡ true → rank (proposal times (suc k)) ≤ rank (greatest times heard n)
+  pub greatest-above : (n : ℕ) → n < 256 → (k : ℕ) → k < n → has heard (suc k) ≡ true
+      → rank (proposal times (suc k)) ≤ rank (greatest times heard n)
   greatest-above zero hn k h e = absurd (omega arith)
   greatest-above (suc n) hn k h e =
       let best = greatest-ledger n in
       let order = below-rank (greatest times heard n) (proposal times (suc n)) (omega arith) (omega arith) in
       next (λ s. rank (proposal times (suc k)) ≤ rank s) n
-      (λ t. let less : rank (greatest times heard n) < rank (proposal times (suc n)) = ltb-true _ _ (sym order ∙ and-right (has heard (suc n)) _ t) in
+      (λ t. let less : rank (greatest times heard n) < rank (proposal times (suc n)) = ltb-true _ _
+      (sym order ∙ and-right (has heard (suc n)) _ t) in
       last-or-before n k h
       (λ q. subst (λ m. rank (proposal times (suc m)) ≤ rank (proposal times (suc n))) (sym q) (le-refl _))
       (λ l. let before : rank (proposal times (suc k)) ≤ rank (greatest times heard n) = greatest-above n (omega arith) k l e in
@@ -72,7 +74,8 @@ module _ (times : List Time) (heard : ℕ) where
 pub proposal-early : (p : Payment) (q : ℕ) → 1 ≤ q → q ≤ 8 → heardFrom p q ≡ true → timeFrom p q ≤ stampOf p .time .0
 proposal-early p zero h₁ h₈ e = absurd (omega arith)
 proposal-early p (suc q) h₁ h₈ e =
-    let top : timeFrom p (suc q) * 256 + suc q ≤ stampOf p .time .0 * 256 + stampOf p .ledger .0 = greatest-above (p .times) (p .heard) 8 (omega arith) q (omega arith) e in
+    let top : timeFrom p (suc q) * 256 + suc q ≤ stampOf p .time .0 * 256 + stampOf p .ledger .0 = greatest-above (p .times)
+    (p .heard) 8 (omega arith) q (omega arith) e in
     let few : stampOf p .ledger .0 ≤ 8 = greatest-ledger (p .times) (p .heard) 8 in
     omega (arith, top, few)
 
@@ -84,7 +87,8 @@ greatest-same ts us heard zero h = refl
 greatest-same ts us heard (suc n) h =
     let rest = greatest-same ts us heard n (λ k l. h k (omega arith)) in
     split (has heard (suc n))
-    (λ t. ap₂ (λ best p. cond (has heard (suc n) && below best p) p best) rest (ap (λ x. record { time = x; ledger = record { 0 = suc n } }) (h n (omega arith) t)))
+    (λ t. ap₂ (λ best p. cond (has heard (suc n) && below best p) p best) rest
+    (ap (λ x. record { time = x; ledger = record { 0 = suc n } }) (h n (omega arith) t)))
     (λ t. ap (λ b. cond (b && below (greatest ts heard n) (proposal ts (suc n))) (proposal ts (suc n)) (greatest ts heard n)) t
     ∙ rest
     ∙ sym (ap (λ b. cond (b && below (greatest us heard n) (proposal us (suc n))) (proposal us (suc n)) (greatest us heard n)) t))

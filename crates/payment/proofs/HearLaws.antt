@@ -1,42 +1,21 @@
 -- What hearing one ledger's time changes, and what it leaves.
 -- Assumes nothing.
-use Prim.Native.Nat.{ℕ, zero, suc, _-_, _+_, _^_, _<_, _≤_}
+use Prim.Native.Nat.{ℕ, zero, suc, _-_, _<_, _≤_}
 use mathlib.Core.Path.{_≡_, refl, ap, sym, _∙_, subst}
 use mathlib.Core.List.{List}
-use mathlib.Core.Bool.{Bool, true, false, cond, _||_, Bool·beq, not, _&&_}
+use mathlib.Core.Bool.{true, cond, _||_}
 use native.Mathlib.Omega.{arith}
 use lib.Dec.{eqb, ltb}
 use lib.ListN.{getD, length, length-set, set}
 use lib.Seq.{getD-set-other, getD-set-same}
-use borrow.Author.Tests.{eq-eqb, eqb-false, eqb-true, lt-ltb, ltb-true, ne-eqb}
+use borrow.Author.Tests.{eq-eqb, eqb-false, eqb-true, lt-ltb, ne-eqb}
 use native.Mathlib.Nat.{not-suc-le-zero}
 use Rattle.common.proofs.TestLaws.{split}
-use Rattle.common.specs.Bits.{bit}
-use Rattle.common.specs.Places.{every}
-use Rattle.common.proofs.PlaceLaws.{every-at}
-use Rattle.common.proofs.ByteLaws.{at-byte}
 use Rattle.frame.specs.declared.Time.{Time}
-use Rattle.payment.specs.Ledgers.{has, with, without}
+use Rattle.ledgers.specs.Ledgers.{has, with}
+use Rattle.ledgers.proofs.LedgerLaws.{with-fits, with-has}
 use Rattle.payment.specs.Payments.{hear, heardFrom, noTime, timeFrom, timeIn}
 use Rattle.payment.specs.declared.Payment.{Payment}
-
-same-test : (a b : Bool) → Bool·beq a b ≡ true → a ≡ b
-same-test true true e = refl
-same-test true false e = sym e
-same-test false true e = e
-same-test false false e = refl
-
--- the ledgers of a byte with one ledger more
-pub with-byte : (d l : ℕ) → d < 256 → l < 8 → with d (suc l) < 256
-unfolding with every
-with-byte d l hd hl = ltb-true _ _ (at-byte (λ d l. ltb (cond (bit d l) d (d + 2 ^ l)) 256) refl d l hd hl)
-
-pub with-has : (d l k : ℕ) → d < 256 → l < 8 → k < 8 → has (with d (suc l)) (suc k) ≡ eqb k l || has d (suc k)
-unfolding with has every
-with-has d l k hd hl hk =
-    same-test _ _
-    (every-at 8 (λ k. Bool·beq (bit (cond (bit d l) d (d + 2 ^ l)) k) (eqb k l || bit d k))
-    (at-byte (λ d l. every 8 (λ k. Bool·beq (bit (cond (bit d l) d (d + 2 ^ l)) k) (eqb k l || bit d k))) refl d l hd hl) k hk)
 
 -- the kept times with one time more
 pub set-time : (times : List Time) (l k : ℕ) (t : Time) → length times ≡ 8 → l < 8 → k < 8
@@ -61,7 +40,13 @@ pub record Hears (p q : Payment) (w t : ℕ) : Type 0 where
 
 hear-place : (p : Payment) (l : ℕ) (t : Time) → l < 8
     → hear p (suc l) t
-    ≡ record { number = p .number; destinations = p .destinations; heard = with (p .heard) (suc l); times = set (p .times) l t; phase = p .phase }
+    ≡ record {
+      number = p .number;
+      destinations = p .destinations;
+      heard = with (p .heard) (suc l);
+      times = set (p .times) l t;
+      phase = p .phase;
+    }
 unfolding hear
 hear-place p l t h = simp (lt-ltb l 8 h)
 
@@ -73,8 +58,9 @@ hears-place p l t h byte size =
       heard = with-has (p .heard) l l byte h h ∙ ap (λ b. b || has (p .heard) (suc l)) (eq-eqb l l refl);
       time = ap (λ x. x .0) (set-time (p .times) l l t size h h ∙ ap (λ b. cond b t (timeIn (p .times) (suc l))) (eq-eqb l l refl));
       heard-other = λ k hk n. with-has (p .heard) l k byte h hk ∙ ap (λ b. b || has (p .heard) (suc k)) (ne-eqb k l (λ e. n (ap suc e)));
-      time-other = λ k hk n. ap (λ x. x .0) (set-time (p .times) l k t size h hk ∙ ap (λ b. cond b t (timeIn (p .times) (suc k))) (ne-eqb k l (λ e. n (ap suc e))));
-      byte = with-byte (p .heard) l byte h;
+      time-other = λ k hk n. ap (λ x. x .0) (set-time (p .times) l k t size h hk
+          ∙ ap (λ b. cond b t (timeIn (p .times) (suc k))) (ne-eqb k l (λ e. n (ap suc e))));
+      byte = with-fits (p .heard) l byte h;
       size = length-set (p .times) l t ∙ size;
     }
 
@@ -86,11 +72,3 @@ pub hear-phase : (p : Payment) (w : ℕ) (t : Time) → hear p w t .phase ≡ p 
 unfolding hear
 hear-phase p zero t = refl
 hear-phase p (suc l) t = split (ltb l 8) (λ e. simp e) (λ e. simp e)
-
--- the ledgers of a byte without one: all others, and not that one
-pub without-has : (d l k : ℕ) → d < 256 → l < 8 → k < 8 → has (without d (suc l)) (suc k) ≡ not (eqb k l) && has d (suc k)
-unfolding without has every
-without-has d l k hd hl hk =
-    same-test _ _
-    (every-at 8 (λ k. Bool·beq (bit (cond (bit d l) (d - 2 ^ l) d) k) (not (eqb k l) && bit d k))
-    (at-byte (λ d l. every 8 (λ k. Bool·beq (bit (cond (bit d l) (d - 2 ^ l) d) k) (not (eqb k l) && bit d k))) refl d l hd hl) k hk)

@@ -1,20 +1,17 @@
 -- A stamp is one of the proposals: what is kept in stamps is kept as a proposal too.
 -- Assumes nothing.
 use Prim.Native.Nat.{ℕ, zero, suc}
-use mathlib.Core.Path.{_≡_, refl, ap, ap₂, sym, _∙_}
+use mathlib.Core.Path.{_≡_, refl, ap, sym, _∙_}
 use mathlib.Core.List.{List}
-use mathlib.Core.Bool.{Bool, true, false, not, cond, _&&_, _||_}
+use mathlib.Core.Bool.{Bool, true, false, cond, _&&_, _||_}
 use native.Mathlib.Omega.{arith}
 use lib.Dec.{eqb, leb}
 use borrow.Author.Tests.{eq-eqb, eqb-true}
-use Rattle.common.specs.Places.{every}
-use Rattle.common.proofs.PlaceLaws.{every-same}
-use Rattle.common.proofs.TestLaws.{and-both, and-false, and-true, and-left, and-right, or-false, split}
+use Rattle.common.proofs.TestLaws.{and-both, and-false, and-left, and-right, or-false, split}
 use Rattle.frame.specs.declared.Time.{Time}
-use Rattle.payment.specs.Ledgers.{has}
+use Rattle.ledgers.specs.Ledgers.{has}
 use Rattle.payment.specs.Payments.{greatest, hasStamp, heardFrom, keeps, proposal, hasProposal, stampIsOf, stampOf, timeFrom, timeIn}
 use Rattle.payment.specs.Stamps.{below}
-use Rattle.payment.specs.Right.{timesDiffer}
 use Rattle.payment.specs.declared.Payment.{Payment}
 use Rattle.payment.specs.declared.Stamp.{Stamp}
 
@@ -41,7 +38,8 @@ greatest-proposed times heard (suc n) l e =
 pub stamp-proposed : (p : Payment) (l : ℕ) → stampIsOf p (suc l) ≡ true
     → (heardFrom p (suc l) ≡ true) × (timeFrom p (suc l) ≡ stampOf p .time .0)
 stamp-proposed p l e =
-    let q = greatest-proposed (p .times) (p .heard) 8 l (eqb-true _ _ (and-right (leb 1 (suc l)) _ (and-right (hasStamp p) (leb 1 (suc l) && eqb (stampOf p .ledger .0) (suc l)) e))) in
+    let q = greatest-proposed (p .times) (p .heard) 8 l (eqb-true _ _
+    (and-right (leb 1 (suc l)) _ (and-right (hasStamp p) (leb 1 (suc l) && eqb (stampOf p .ledger .0) (suc l)) e))) in
     (q .0, ap (λ t. t .0) (q .1))
 
 -- so it is enough to look at proposals
@@ -55,27 +53,3 @@ keeps-proposes p (suc l) t =
     and-both (q .0) (eq-eqb _ _ (q .1 ∙ eqb-true _ _ (and-right (stampIsOf p (suc l)) (eqb (stampOf p .time .0) t) s))) in
     ap (λ b. b || (stampIsOf p (suc l) && eqb (stampOf p .time .0) t)) kept ∙ sym kept)
     (λ s. ap (λ b. hasProposal p (suc l) t || b) s ∙ or-false (hasProposal p (suc l) t))
-
-other-ledger : (p q : Payment) (l : ℕ)
-    → not (heardFrom p (suc l) && keeps q (suc l) (timeFrom p (suc l))) && not (stampIsOf p (suc l) && keeps q (suc l) (stampOf p .time .0))
-    ≡ not (heardFrom p (suc l) && hasProposal q (suc l) (timeFrom p (suc l)))
-other-ledger p q l =
-    split (stampIsOf p (suc l))
-    (λ s. let r = stamp-proposed p l s in
-    ap₂ (λ a b. not a && not b) first
-    (ap₂ _&&_ (s ∙ sym (r .0)) (ap (keeps q (suc l)) (sym (r .1))) ∙ first)
-    ∙ twice (not (heardFrom p (suc l) && hasProposal q (suc l) (timeFrom p (suc l)))))
-    (λ s. ap₂ (λ a b. not a && not b) first (ap (λ b. b && keeps q (suc l) (stampOf p .time .0)) s) ∙ and-true _)
-  where
-    first : heardFrom p (suc l) && keeps q (suc l) (timeFrom p (suc l)) ≡ heardFrom p (suc l) && hasProposal q (suc l) (timeFrom p (suc l))
-    first = ap (λ b. heardFrom p (suc l) && b) (keeps-proposes q (suc l) (timeFrom p (suc l)))
-
-    twice : (b : Bool) → b && b ≡ b
-    twice true = refl
-    twice false = refl
-
--- two payments keep no time of one ledger together exactly when none was proposed to both
-pub otherTimes-proposed : (p q : Payment)
-    → timesDiffer p q ≡ every 8 (λ k. not (heardFrom p (suc k) && hasProposal q (suc k) (timeFrom p (suc k))))
-unfolding timesDiffer
-otherTimes-proposed p q = every-same 8 _ _ (λ k h. other-ledger p q k)

@@ -1,24 +1,21 @@
 -- Laws of what is kept for a payment, one for each way through the definitions.
 -- Assumes nothing.
-use Prim.Native.Nat.{ℕ, _+_, _-_, _/_, _^_, _<_, _≤_}
+use Prim.Native.Nat.{ℕ, _+_, _-_, _<_, _≤_}
 use mathlib.Core.Path.{_≡_, ap, sym, _∙_}
 use mathlib.Core.List.{List}
-use mathlib.Core.Bool.{true, false, not}
-use native.Mathlib.Nat.{div-eq-of-lt, div-lt-iff-lt-mul}
+use mathlib.Core.Bool.{true, false}
 use native.Mathlib.Numerals.{add-one}
 use native.Mathlib.Omega.{arith}
-use lib.Dec.{eqb, leb}
 use lib.ListN.{getD, set}
-use lib.Pow.{pow-mono, pow-pos}
-use borrow.Author.Tests.{eq-eqb, leb-false, leb-true, le-ltb, lt-leb, lt-ltb, ne-eqb}
-use Rattle.common.proofs.TestLaws.{and-false, or-false, or-true, split}
+use borrow.Author.Tests.{le-ltb, lt-ltb}
+use Rattle.common.proofs.TestLaws.{and-false}
 use Rattle.frame.specs.declared.Time.{Time}
-use Rattle.payment.specs.Ledgers.{has, with}
+use Rattle.ledgers.specs.Ledgers.{has, with}
 use Rattle.payment.specs.declared.Payment.{Payment}
-use Rattle.payment.specs.Payments.{greatest, hear, noTime, proposal, timeIn, unlawful}
+use Rattle.payment.specs.Payments.{greatest, hear, noTime, proposal, timeIn}
 use Rattle.payment.specs.Stamps.{below}
 use Rattle.payment.specs.declared.Stamp.{Stamp}
-use Rattle.payment.proofs.LedgerLaws.{place}
+use Rattle.ledgers.proofs.LedgerLaws.{place}
 
 pub time-none : (times : List Time) (l : ℕ) → l ≡ 0 → timeIn times l ≡ noTime
 unfolding timeIn
@@ -42,34 +39,11 @@ module _ (times : List Time) (heard k : ℕ) (best : Stamp) (e : best ≡ greate
   unfolding greatest
   greatest-keeps b = e ∙ sym (ap (greatest times heard) (add-one k) ∙ simp (← e, rw add-one at b, and-false))
 
-  pub greatest-next : has heard (k + 1) ≡ true → below best (proposal times (k + 1)) ≡ true → proposal times (k + 1) ≡ greatest times heard (k + 1)
+  pub greatest-next : has heard (k + 1) ≡ true → below best (proposal times (k + 1)) ≡ true
+      → proposal times (k + 1) ≡ greatest times heard (k + 1)
   unfolding greatest
   greatest-next h b =
       ap (proposal times) (add-one k) ∙ sym (ap (greatest times heard) (add-one k) ∙ simp (← e, rw add-one at h, rw add-one at b))
-
--- which destinations are unlawful
-module _ (group own destinations : ℕ) where
-  pub unlawful-empty : destinations ≡ 0 → unlawful group own destinations ≡ true
-  unfolding unlawful
-  unlawful-empty e = simp (eq-eqb _ _ e)
-
-  pub unlawful-without : has destinations own ≡ false → unlawful group own destinations ≡ true
-  unfolding unlawful
-  unlawful-without h = simp (h, or-true)
-
-  pub unlawful-beyond : (destinations ≡ 0 → ⊥) → has destinations own ≡ true → unlawful group own destinations ≡ leb (2 ^ group) destinations
-  unfolding unlawful
-  unlawful-beyond n h = simp (ne-eqb _ _ n, h) (or-false (leb (2 ^ group) destinations))
-
--- a power is not above a number exactly when it divides it at least once
-pub leb-shift : (k d : ℕ) → leb (2 ^ k) d ≡ not (eqb (d / 2 ^ k) 0)
-leb-shift k d =
-    split (leb (2 ^ k) d)
-    (λ t. t ∙ sym (simp (ne-eqb (d / 2 ^ k) 0 (λ e. omega (arith, leb-true (2 ^ k) d t, div-lt-iff-lt-mul {k = 2 ^ k} {x = d} {y = 1} (pow-pos k) .0 (omega arith))))))
-    (λ t. t ∙ sym (simp (eq-eqb (d / 2 ^ k) 0 (div-eq-of-lt (leb-false (2 ^ k) d t)))))
-
-pub leb-wide : (k d : ℕ) → 8 ≤ k → d < 256 → leb (2 ^ k) d ≡ false
-leb-wide k d h hd = lt-leb (2 ^ k) d (omega (arith, pow-mono {i = 8} {j = k} h))
 
 -- one more ledger's time
 module _ (p : Payment) (l : ℕ) (t : Time) where
@@ -94,4 +68,10 @@ module _ (p : Payment) (l : ℕ) (t : Time) where
   hear-at n h =
       ap (λ k. hear p k t) (place l n)
       ∙ simp (lt-ltb (l - 1) 8 (omega arith))
-      (ap (λ k. record { number = p .number; destinations = p .destinations; heard = with (p .heard) k; times = set (p .times) (l - 1) t; phase = p .phase }) (sym (place l n)))
+      (ap (λ k. record {
+        number = p .number;
+        destinations = p .destinations;
+        heard = with (p .heard) k;
+        times = set (p .times) (l - 1) t;
+        phase = p .phase;
+      }) (sym (place l n)))

@@ -1,12 +1,12 @@
 -- Document 01, "What a ledger keeps": what is kept for each payment.
 -- Assumes nothing.
-use Prim.Native.Nat.{ℕ, zero, suc, _^_}
+use Prim.Native.Nat.{ℕ, zero, suc}
 use mathlib.Core.List.{List}
-use mathlib.Core.Bool.{Bool, cond, not, _&&_, _||_}
-use lib.ListN.{getD, set}
+use mathlib.Core.Bool.{Bool, cond, _&&_, _||_}
+use lib.ListN.{getD, replicate, set}
 use lib.Dec.{eqb, leb, ltb}
 use Rattle.frame.specs.declared.Time.{Time}
-use Rattle.payment.specs.Ledgers.{has, with}
+use Rattle.ledgers.specs.Ledgers.{has, mostLedgers, with}
 use Rattle.payment.specs.Stamps.{below}
 use Rattle.payment.specs.declared.Stamp.{Stamp}
 use Rattle.payment.specs.declared.Payment.{Payment}
@@ -24,16 +24,16 @@ noTime = record { 0 = 0 }
 abbrev pub noStamp : Stamp
 noStamp = record { time = noTime; ledger = record { 0 = 0 } }
 
--- the time kept from ledger k; ledgers are 1 to 8
+-- the time kept from ledger k; 0, which is no time, where there is no such ledger
 unfoldable pub timeIn : List Time → ℕ → Time
 timeIn times zero = noTime
-timeIn times (suc k) = cond (ltb k 8) (getD times k noTime) noTime
+timeIn times (suc k) = cond (ltb k mostLedgers) (getD times k noTime) noTime
 
 -- the proposal of ledger k, as a stamp: its time with its number
 abbrev pub proposal : List Time → ℕ → Stamp
 proposal times k = record { time = timeIn times k; ledger = record { 0 = k } }
 
--- the greatest proposal of those heard from the ledgers 1 to k
+-- the greatest proposal of those heard from the ledgers 1 to k; none, all zero, where none was heard
 unfoldable pub greatest : List Time → ℕ → ℕ → Stamp
 greatest times heard zero = noStamp
 greatest times heard (suc k) =
@@ -49,7 +49,7 @@ timeFrom p k = timeIn (p .times) k .0
 
 -- the greatest proposal heard: the stamp, once the payment is stamped (it is not stored beside the times, which then never change)
 abbrev pub stampOf : Payment → Stamp
-stampOf p = greatest (p .times) (p .heard) 8
+stampOf p = greatest (p .times) (p .heard) mostLedgers
 
 -- every destination is heard: no more can be, since heard ones are destinations
 abbrev pub allHeard : Payment → Bool
@@ -99,7 +99,7 @@ keeps p k t = hasProposal p k t || (stampIsOf p k && eqb (stampOf p .time .0) t)
 unfoldable pub hear : Payment → ℕ → Time → Payment
 hear p zero t = p
 hear p (suc k) t =
-    cond (ltb k 8)
+    cond (ltb k mostLedgers)
     (record {
       number = p .number;
       destinations = p .destinations;
@@ -109,7 +109,18 @@ hear p (suc k) t =
     })
     p
 
--- 5: destinations empty, beyond N, or without this ledger
-unfoldable pub unlawful : ℕ → ℕ → ℕ → Bool
-unlawful group own destinations =
-    eqb destinations 0 || (leb (2 ^ group) destinations || not (has destinations own))
+-- a payment that is taken in: nothing heard, waiting
+abbrev pub newPayment : ℕ → ℕ → Payment
+newPayment number destinations =
+    record {
+      number = record { 0 = number };
+      destinations = destinations;
+      heard = 0;
+      times = replicate mostLedgers noTime;
+      phase = waiting;
+    }
+
+-- the payment in another phase
+abbrev pub inPhase : ℕ → Payment → Payment
+inPhase phase p =
+    record { number = p .number; destinations = p .destinations; heard = p .heard; times = p .times; phase = phase }

@@ -1,12 +1,10 @@
 // One payment's record: its destinations, every destination's proposed time with which ones were heard, and its phase.
-mod right;
-
 use frame::LedgerNo;
 use frame::PaymentNo;
 use frame::Time;
 ghost use mathlib.Core.Path.{_≡_};
-ghost use Rattle.payment.specs.Ledgers.{has, howMany, without};
-ghost use Rattle.payment.specs.Payments.{greatest, hear, hasProposal, stampOf, timeIn, unlawful};
+ghost use Prim.Native.Nat.{max};
+ghost use Rattle.payment.specs.Payments.{greatest, hasProposal, hear, newPayment, stampOf, timeIn};
 ghost use Rattle.payment.specs.Stamps.{below};
 
 // Phases.
@@ -38,69 +36,23 @@ pub struct Payment {
     pub phase: u8,
 }
 
-// Whether a ledger is among the ledgers of a byte.
-pub fn among(ledgers: u8, ledger: LedgerNo) -> bool
-    ensures { λ r. ⌜ r ≡ has ledgers (ledger .0) ⌝ }
-{
-    let k = ledger.0;
-    if k == 0 {
-        return false;
-    }
-    if 8 < k {
-        return false;
-    }
-    (ledgers >> (k - 1)) % 2 == 1
-}
-
-// The other ledgers of a byte.
-pub fn others(ledgers: u8, ledger: LedgerNo) -> u8
-    ensures { λ r. ⌜ r ≡ without ledgers (ledger .0) ⌝ }
-{
-    let k = ledger.0;
-    if k == 0 {
-        return ledgers;
-    }
-    if 8 < k {
-        return ledgers;
-    }
-    ledgers & !(1 << (k - 1))
-}
-
-// How many ledgers there are in a byte.
-pub fn how_many(ledgers: u8) -> u32
-    ensures { λ r. ⌜ r ≡ howMany ledgers ⌝ }
-{
-    u8::count_ones(ledgers)
-}
-
-// Whether destinations are empty, beyond the group, or without this ledger.
-pub fn is_unlawful(group: u8, own: LedgerNo, destinations: u8) -> bool
-    ensures { λ r. ⌜ r ≡ unlawful group (own .0) destinations ⌝ }
-{
-    if destinations == 0 {
-        return true;
-    }
-    if among(destinations, own) {
-        if group < 8 {
-            return (destinations >> group) != 0;
-        }
-        return false;
-    }
-    true
-}
-
 impl Stamp {
     pub fn is_below(self, other: Stamp) -> bool
         ensures { λ r. ⌜ r ≡ below self other ⌝ }
     {
-        if self.time.0 < other.time.0 {
-            return true;
-        }
-        if self.time.0 == other.time.0 {
-            return self.ledger.0 < other.ledger.0;
-        }
-        false
+        (self.time.0 < other.time.0)
+            | ((self.time.0 == other.time.0) & (self.ledger.0 < other.ledger.0))
     }
+}
+
+// The later of two times.
+pub fn later(a: Time, b: Time) -> Time
+    ensures { λ r. ⌜ r ≡ record { 0 = max (a .0) (b .0) } ⌝ }
+{
+    if a.0 < b.0 {
+        return b;
+    }
+    a
 }
 
 // The time kept from a ledger.
@@ -111,7 +63,7 @@ pub fn time_in(times: [Time; 8], ledger: LedgerNo) -> Time
     if k == 0 {
         return Time(0);
     }
-    if 8 < k {
+    if ledgers::MOST < k {
         return Time(0);
     }
     times[(k - 1) as usize]
@@ -125,9 +77,9 @@ pub fn pick(times: [Time; 8], heard: u8) -> Stamp
         time: Time(0),
         ledger: LedgerNo(0),
     };
-    for k in 0..8u8 {
+    for k in 0..ledgers::MOST {
         let ledger = LedgerNo(k + 1);
-        if among(heard, ledger) {
+        if ledgers::among(heard, ledger) {
             let next = Stamp {
                 time: time_in(times, ledger),
                 ledger: ledger,
@@ -138,6 +90,19 @@ pub fn pick(times: [Time; 8], heard: u8) -> Stamp
         }
     }
     best
+}
+
+// A payment that is taken in: nothing heard, waiting.
+pub fn new_payment(number: PaymentNo, destinations: u8) -> Payment
+    ensures { λ r. ⌜ r ≡ newPayment (number .0) destinations ⌝ }
+{
+    Payment {
+        number: number,
+        destinations: destinations,
+        heard: 0,
+        times: [Time(0); 8],
+        phase: WAITING,
+    }
 }
 
 impl Payment {
@@ -156,7 +121,7 @@ impl Payment {
         if k == 0 {
             return self;
         }
-        if 8 < k {
+        if ledgers::MOST < k {
             return self;
         }
         self.heard = self.heard | (1 << (k - 1));
@@ -169,9 +134,6 @@ impl Payment {
         ensures { λ r. ⌜ r ≡ hasProposal self (ledger .0) (time .0) ⌝ }
     {
         let times = self.times;
-        if among(self.heard, ledger) {
-            return time_in(times, ledger).0 == time.0;
-        }
-        false
+        ledgers::among(self.heard, ledger) & (time_in(times, ledger).0 == time.0)
     }
 }

@@ -1,38 +1,23 @@
--- A record does the same whatever follows it, and one that goes on is whole.
+-- A record does the same whatever follows it.
 -- Assumes nothing.
 use Prim.Native.Nat.{ℕ, _+_, _≤_}
 use mathlib.Core.Path.{_≡_, refl, ap, ap₂, sym, _∙_}
 use mathlib.Core.List.{List, _∷_, _++_}
-use mathlib.Core.Bool.{Bool, true, false, cond, not, _||_}
+use mathlib.Core.Bool.{Bool, false, cond, not, _||_}
 use native.Mathlib.Omega.{arith}
-use borrow.Author.Tests.{eqb-false, eqb-true, le-ltb, ltb-false, not-false}
+use borrow.Author.Tests.{eqb-false, eqb-true, le-ltb}
 use lib.Dec.{eqb, ltb}
 use lib.ListN.{drop, length, length-append, length-drop, take, List·getD-append}
 use lib.Seq.{drop-append-le, take-append-le}
-use Rattle.common.proofs.TestLaws.{or-left, or-right, split}
+use Rattle.common.proofs.TestLaws.{split}
 use Rattle.frame.specs.Digits.{sum}
 use Rattle.frame.specs.Frames.{body, kindIn, known, multicast, propose}
-use Rattle.records.specs.Records.{frameIn, lawfulGroup, lawfulTarget, recordTotal, records, secondIn, started, stepped, stops, turn}
+use Rattle.ledgers.specs.Ledgers.{isGroup, isLedgerOf}
+use Rattle.records.specs.Records.{frameIn, recordTotal, records, secondIn, started, stepped, stops, turn}
 use Rattle.records.specs.declared.Did.the-variants.{SetUp}
 use Rattle.records.specs.declared.Group.{Group}
-use Rattle.records.proofs.RecordLaws.{frame-multicast, frame-propose, stops-unknown, total-propose, total-second, turn-starts, turn-steps, turn-stops}
-
--- a record that goes on has a known kind and is whole
-pub goes-known : (g : Group) (bytes : List ℕ) → stops g bytes ≡ false → known records (kindIn bytes) ≡ true
-unfolding stops
-goes-known g bytes e = not-false (known records (kindIn bytes)) (or-left (not (known records (kindIn bytes))) _ e)
-
-pub goes-some : (g : Group) (bytes : List ℕ) → stops g bytes ≡ false → 2 ≤ recordTotal (kindIn bytes)
-unfolding recordTotal
-goes-some g bytes e =
-    total-second (kindIn bytes)
-    (λ z. let known = goes-known g bytes e in let z2 = rw known at z in omega arith)
-
-pub goes-whole : (g : Group) (bytes : List ℕ) → stops g bytes ≡ false → recordTotal (kindIn bytes) ≤ length bytes
-unfolding stops
-goes-whole g bytes e =
-    ltb-false (length bytes) (recordTotal (kindIn bytes))
-    (or-left (ltb (length bytes) (recordTotal (kindIn bytes))) _ (or-right (not (known records (kindIn bytes))) _ e))
+use Rattle.records.proofs.RecordLaws.{frame-multicast, frame-propose, goes-some, stops-unknown, total-propose}
+use Rattle.records.proofs.RecordLaws.{total-second, turn-starts, turn-steps, turn-stops}
 
 -- the parts of a record, whatever follows
 module _ (bytes more : List ℕ) where
@@ -51,7 +36,7 @@ module _ (bytes more : List ℕ) where
 abbrev verdict : Group → ℕ → ℕ → Bool → Bool
 verdict g kind second short =
     not (known records kind)
-    || (short || cond (eqb kind 16) (not (lawfulGroup second)) (not (lawfulTarget g second)))
+    || (short || cond (eqb kind 16) (not (isGroup second)) (not (isLedgerOf (g .count) second)))
 
 module _ (g : Group) (bytes more list : List ℕ) (some : 1 ≤ length bytes) (whole : recordTotal (kindIn bytes) ≤ length bytes) where
   kind : kindIn (bytes ++ more) ≡ kindIn bytes
@@ -65,34 +50,37 @@ module _ (g : Group) (bytes more list : List ℕ) (some : 1 ≤ length bytes) (w
       le-ltb (length (bytes ++ more)) (recordTotal (kindIn (bytes ++ more))) (omega (arith, same-total, length-append bytes more))
       ∙ sym (le-ltb (length bytes) (recordTotal (kindIn bytes)) whole)
 
-  stops-follows : stops g (bytes ++ more) ≡ stops g bytes
+  stops-follows : stops (g .count) (bytes ++ more) ≡ stops (g .count) bytes
   unfolding stops
   stops-follows =
       split (eqb (recordTotal (kindIn bytes)) 0)
-      (λ t. let none = eqb-true (recordTotal (kindIn bytes)) 0 t in stops-unknown g (bytes ++ more) (same-total ∙ none) ∙ sym (stops-unknown g bytes none))
+      (λ t. let none = eqb-true (recordTotal (kindIn bytes)) 0 t in stops-unknown (g .count) (bytes ++ more) (same-total ∙ none)
+      ∙ sym (stops-unknown (g .count) bytes none))
       (λ t. let two = total-second (kindIn bytes) (eqb-false (recordTotal (kindIn bytes)) 0 t) in
       ap (λ k. verdict g k (secondIn (bytes ++ more)) (ltb (length (bytes ++ more)) (recordTotal (kindIn (bytes ++ more))))) kind
       ∙ ap₂ (λ x y. verdict g (kindIn bytes) x y) (second-follows bytes more (omega arith)) neither-short)
 
   -- the frame of a step record that goes on
-  frame-follows : stops g bytes ≡ false → (kindIn bytes ≡ 16 → ⊥) → frameIn (bytes ++ more) ≡ frameIn bytes
+  frame-follows : stops (g .count) bytes ≡ false → (kindIn bytes ≡ 16 → ⊥) → frameIn (bytes ++ more) ≡ frameIn bytes
   unfolding recordTotal known body sum
   frame-follows go n =
       split (eqb (kindIn bytes) 17)
       (λ t. let e = eqb-true (kindIn bytes) 17 t in
       let seven : recordTotal (kindIn bytes) ≡ 7 = ap recordTotal e in
-      frame-multicast (bytes ++ more) (kind ∙ e) ∙ ap (λ l. multicast .kind ∷ l) (body-follows bytes more 5 (omega arith)) ∙ sym (frame-multicast bytes e))
+      frame-multicast (bytes ++ more) (kind ∙ e) ∙ ap (λ l. multicast .kind ∷ l) (body-follows bytes more 5 (omega arith))
+      ∙ sym (frame-multicast bytes e))
       (λ t. let e = eqb-false (kindIn bytes) 17 t in
-      let some = goes-some g bytes go in
+      let some = goes-some (g .count) bytes go in
       let ten = total-propose (kindIn bytes) n e (λ z. omega arith) in
-      frame-propose (bytes ++ more) (λ q. e (sym kind ∙ q)) ∙ ap (λ l. propose .kind ∷ l) (body-follows bytes more 8 (omega arith)) ∙ sym (frame-propose bytes e))
+      frame-propose (bytes ++ more) (λ q. e (sym kind ∙ q)) ∙ ap (λ l. propose .kind ∷ l) (body-follows bytes more 8 (omega arith))
+      ∙ sym (frame-propose bytes e))
 
   -- whatever follows a whole record, it does the same
   pub turn-follows : turn g (bytes ++ more) list ≡ turn g bytes list
   turn-follows =
-      split (stops g bytes)
+      split (stops (g .count) bytes)
       (λ t. turn-stops g (bytes ++ more) list (stops-follows ∙ t) ∙ sym (turn-stops g bytes list t))
-      (λ t. let some = goes-some g bytes t in
+      (λ t. let some = goes-some (g .count) bytes t in
       let second = second-follows bytes more (omega arith) in
       split (eqb (kindIn bytes) 16)
       (λ u. let e = eqb-true (kindIn bytes) 16 u in

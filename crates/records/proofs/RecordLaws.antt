@@ -1,35 +1,30 @@
 -- Laws of the records, one for each way through the definitions.
 -- Assumes nothing.
-use Prim.Native.Nat.{ℕ, zero, suc, _+_, _<_, _≤_}
-use mathlib.Core.Path.{_≡_, refl, ap, sym, _∙_}
-use mathlib.Core.List.{List, [], _∷_}
-use mathlib.Core.Bool.{true, false, not}
+use Prim.Native.Nat.{ℕ, _+_, _<_, _≤_}
+use mathlib.Core.Path.{_≡_, refl, ap, ap₂, sym, _∙_}
+use mathlib.Core.List.{List, [], _∷_, _++_}
+use mathlib.Core.Bool.{Bool, true, false, cond, not, _||_}
 use native.Mathlib.Omega.{arith}
-use lib.Dec.{eqb, leb}
-use borrow.Author.Tests.{eq-eqb, eqb-false, eqb-true, le-leb, le-ltb, leb-true, lt-leb, lt-ltb, ne-eqb}
-use lib.ListN.{length, getD, set, take, drop, List·getD-eq-default}
-use lib.Seq.{drop-cons, getD-set-other, getD-set-same}
+use lib.Dec.{eqb, leb, ltb}
+use borrow.Author.Tests.{eq-eqb, eqb-false, eqb-true, leb-true, ltb-false, ne-eqb, not-false}
+use lib.ListN.{length, length-drop, getD, set, take, drop, List·getD-eq-default}
+use lib.Seq.{getD-drop, getD-set-other, getD-set-same, take-suc, take-suc-set}
+use native.Mathlib.Nat.{add-comm}
 use native.Mathlib.Numerals.{add-one}
 use Rattle.common.specs.Places.{listed}
 use Rattle.common.proofs.PlaceLaws.{last-or-before, listed-places, listed-same}
-use Rattle.common.proofs.TestLaws.{and-left, and-right, or-true, split}
+use Rattle.common.proofs.TestLaws.{and-left, and-right, or-left, or-right, split}
 use Rattle.frame.specs.Digits.{sum}
-use Rattle.frame.specs.Frames.{body, kindIn, known, multicast, propose}
-use Rattle.records.specs.Records.{carried, frameIn, lawfulGroup, lawfulTarget, recordTotal, records, secondIn, started, stepped, stopped, stops, turn}
+use Rattle.frame.specs.Frames.{body, kindIn, known, multicast, propose, totalIn}
+use Rattle.ledgers.specs.Ledgers.{isGroup, isLedgerOf}
+use Rattle.records.specs.Records.{carried, frameIn, frameKind, recordTotal, records, secondIn, started, stepped, stopped, stops, turn}
 use Rattle.records.specs.declared.Did.the-variants.{SetUp}
 use Rattle.records.specs.declared.Group.{Group}
 
--- a kind is unknown where its record has no length
-pub total-unknown : (k : ℕ) → recordTotal k ≡ 0 → known records k ≡ false
+-- a kind is unknown exactly where its record has no length
+pub unknown-total : (k : ℕ) → not (known records k) ≡ eqb (recordTotal k) 0
 unfolding recordTotal
-total-unknown k e =
-    split (known records k)
-    (λ t. let e2 = rw t at e in absurd (omega arith))
-    (λ t. t)
-
-pub total-known : (k : ℕ) → (recordTotal k ≡ 0 → ⊥) → known records k ≡ true
-unfolding recordTotal
-total-known k n = split (known records k) (λ t. t) (λ t. absurd (n (simp t)))
+unknown-total k = split (known records k) (λ t. simp t (sym (ne-eqb (totalIn records k) 0 (λ z. omega arith)))) (λ t. simp t)
 
 pub total-other : (k : ℕ) → (k ≡ 16 → ⊥) → (k ≡ 17 → ⊥) → (k ≡ 18 → ⊥) → recordTotal k ≡ 0
 unfolding recordTotal known
@@ -52,41 +47,106 @@ total-second k some =
     (λ u. let e : recordTotal k ≡ 7 = ap recordTotal (eqb-true k 17 u) in omega arith)
     (λ u. let e = total-propose k (eqb-false k 16 t) (eqb-false k 17 u) some in omega arith))
 
--- when a record ends the run
-module _ (g : Group) (bytes : List ℕ) where
-  pub stops-unknown : recordTotal (kindIn bytes) ≡ 0 → stops g bytes ≡ true
-  unfolding stops
-  stops-unknown e = simp (total-unknown (kindIn bytes) e)
+-- no record is longer than one of kind 18
+pub total-most : (k : ℕ) → recordTotal k ≤ 10
+unfolding recordTotal known body sum
+total-most k =
+    split (eqb k 16)
+    (λ t. let e : recordTotal k ≡ 2 = ap recordTotal (eqb-true k 16 t) in omega arith)
+    (λ t. split (eqb k 17)
+    (λ u. let e : recordTotal k ≡ 7 = ap recordTotal (eqb-true k 17 u) in omega arith)
+    (λ u. split (eqb (recordTotal k) 0)
+    (λ z. let none = eqb-true (recordTotal k) 0 z in omega arith)
+    (λ z. let e = total-propose k (eqb-false k 16 t) (eqb-false k 17 u) (eqb-false (recordTotal k) 0 z) in omega arith)))
 
-  pub stops-empty : length bytes ≡ 0 → stops g bytes ≡ true
+-- three tests, of which the first two are made together
+cut : (a b c : Bool) → a || b ≡ true → a || (b || c) ≡ true
+cut true b c e = refl
+cut false true c e = refl
+cut false false c e = absurd (let z : _≡_ {A = ℕ} 0 1 = cc in omega arith)
+
+past : (a b c : Bool) → a || b ≡ false → a || (b || c) ≡ c
+past a b c e = simp (or-left a b e, or-right a b e)
+
+-- whether a record that is whole and of a known kind ends the run
+abbrev judged : ℕ → List ℕ → Bool
+judged n bytes = cond (eqb (kindIn bytes) 16) (not (isGroup (secondIn bytes))) (not (isLedgerOf n (secondIn bytes)))
+
+-- when a record ends the run
+module _ (n : ℕ) (bytes : List ℕ) where
+  stops-by-total : stops n bytes ≡ eqb (recordTotal (kindIn bytes)) 0 || (ltb (length bytes) (recordTotal (kindIn bytes)) || judged n bytes)
+  unfolding stops
+  stops-by-total = ap (λ b. b || (ltb (length bytes) (recordTotal (kindIn bytes)) || judged n bytes)) (unknown-total (kindIn bytes))
+
+  pub stops-unknown : recordTotal (kindIn bytes) ≡ 0 → stops n bytes ≡ true
+  stops-unknown e = stops-by-total ∙ simp (eq-eqb _ _ e)
+
+  pub stops-empty : length bytes ≡ 0 → stops n bytes ≡ true
   unfolding recordTotal known
   stops-empty e = stops-unknown (ap recordTotal (List·getD-eq-default bytes 0 (omega arith)))
 
-  pub stops-short : length bytes < recordTotal (kindIn bytes) → stops g bytes ≡ true
-  unfolding stops
-  stops-short h = simp (lt-ltb _ _ h, or-true)
+  module _ (total : ℕ) (is : total ≡ recordTotal (kindIn bytes)) where
+    tested : (b : Bool) → eqb total 0 || ltb (length bytes) total ≡ b
+        → eqb (recordTotal (kindIn bytes)) 0 || ltb (length bytes) (recordTotal (kindIn bytes)) ≡ b
+    tested b e = ap (λ t. eqb t 0 || ltb (length bytes) t) (sym is) ∙ e
 
-  module _ (some : recordTotal (kindIn bytes) ≡ 0 → ⊥) (whole : recordTotal (kindIn bytes) ≤ length bytes) where
-    pub stops-set-up : kindIn bytes ≡ 16 → stops g bytes ≡ not (lawfulGroup (secondIn bytes))
-    unfolding stops
-    stops-set-up e = simp (total-known (kindIn bytes) some, le-ltb _ _ whole, eq-eqb _ _ e)
+    pub stops-cut : eqb total 0 || ltb (length bytes) total ≡ true → stops n bytes ≡ true
+    stops-cut e = stops-by-total ∙ cut (eqb (recordTotal (kindIn bytes)) 0) (ltb (length bytes) (recordTotal (kindIn bytes)))
+        (judged n bytes) (tested true e)
 
-    pub stops-step : (kindIn bytes ≡ 16 → ⊥) → stops g bytes ≡ not (lawfulTarget g (secondIn bytes))
-    unfolding stops
-    stops-step n = simp (total-known (kindIn bytes) some, le-ltb _ _ whole, ne-eqb _ _ n)
+    stops-whole : eqb total 0 || ltb (length bytes) total ≡ false → stops n bytes ≡ judged n bytes
+    stops-whole e = stops-by-total ∙ past (eqb (recordTotal (kindIn bytes)) 0) (ltb (length bytes) (recordTotal (kindIn bytes)))
+        (judged n bytes) (tested false e)
+
+    pub stops-set-up : eqb total 0 || ltb (length bytes) total ≡ false → kindIn bytes ≡ 16 → stops n bytes ≡ not (isGroup (secondIn bytes))
+    stops-set-up e k = stops-whole e ∙ simp (eq-eqb _ _ k)
+
+    pub stops-step : eqb total 0 || ltb (length bytes) total ≡ false → (kindIn bytes ≡ 16 → ⊥)
+        → stops n bytes ≡ not (isLedgerOf n (secondIn bytes))
+    stops-step e k = stops-whole e ∙ simp (ne-eqb _ _ k)
+
+    -- a record past both tests has a byte after its kind
+    pub whole-second : eqb total 0 || ltb (length bytes) total ≡ false → 2 ≤ length bytes
+    whole-second e =
+        let none = eqb-false total 0 (or-left (eqb total 0) _ e) in
+        let all = ltb-false (length bytes) total (or-right (eqb total 0) _ e) in
+        let two = total-second (kindIn bytes) (λ z. none (is ∙ z)) in
+        omega arith
+
+  -- one that goes on has a known kind, is whole, and has a byte after its kind
+  module _ (go : stops n bytes ≡ false) where
+    tests : eqb (recordTotal (kindIn bytes)) 0 || (ltb (length bytes) (recordTotal (kindIn bytes)) || judged n bytes) ≡ false
+    tests = sym stops-by-total ∙ go
+
+    pub goes-known : recordTotal (kindIn bytes) ≡ 0 → ⊥
+    goes-known = eqb-false _ _ (or-left (eqb (recordTotal (kindIn bytes)) 0) _ tests)
+
+    pub goes-some : 2 ≤ recordTotal (kindIn bytes)
+    goes-some = total-second (kindIn bytes) goes-known
+
+    pub goes-whole : recordTotal (kindIn bytes) ≤ length bytes
+    goes-whole = ltb-false (length bytes) _ (or-left (ltb (length bytes) (recordTotal (kindIn bytes))) _
+        (or-right (eqb (recordTotal (kindIn bytes)) 0) _ tests))
+
+    -- a step that goes on has a ledger to step
+    pub goes-target : (kindIn bytes ≡ 16 → ⊥) → isLedgerOf n (secondIn bytes) ≡ true
+    goes-target k =
+        let last : judged n bytes ≡ false = or-right (ltb (length bytes) (recordTotal (kindIn bytes))) _
+        (or-right (eqb (recordTotal (kindIn bytes)) 0) _ tests) in
+        not-false _ (simp (ne-eqb _ _ k) at last)
 
 -- what a record does, by whether it ends the run, and by its kind
 module _ (g : Group) (bytes list : List ℕ) where
-  pub turn-stops : stops g bytes ≡ true → turn g bytes list ≡ stopped g list
+  pub turn-stops : stops (g .count) bytes ≡ true → turn g bytes list ≡ stopped g list
   unfolding turn
   turn-stops e = simp e
 
-  pub turn-starts : stops g bytes ≡ false → kindIn bytes ≡ 16
+  pub turn-starts : stops (g .count) bytes ≡ false → kindIn bytes ≡ 16
       → turn g bytes list ≡ record { group = started (secondIn bytes); did = SetUp (secondIn bytes); list = list }
   unfolding turn
   turn-starts e k = simp (e, eq-eqb _ _ k)
 
-  pub turn-steps : (row : List ℕ) → stops g bytes ≡ false → (kindIn bytes ≡ 16 → ⊥) → frameIn bytes ≡ row
+  pub turn-steps : (row : List ℕ) → stops (g .count) bytes ≡ false → (kindIn bytes ≡ 16 → ⊥) → frameIn bytes ≡ row
       → turn g bytes list ≡ stepped g (secondIn bytes) row list
   unfolding turn
   turn-steps row e n f = simp (e, ne-eqb _ _ n, f)
@@ -99,16 +159,42 @@ pub frame-propose : (bytes : List ℕ) → (kindIn bytes ≡ 17 → ⊥) → fra
 unfolding frameIn
 frame-propose bytes n = simp (ne-eqb _ _ n)
 
--- so many bytes from a place on, one after the other
-abbrev pub run : ℕ → ℕ → List ℕ → List ℕ
-run zero i bytes = []
-run (suc n) i bytes = getD bytes i 0 ∷ run n (suc i) bytes
+-- the kind of the frame of a step record
+pub kind-multicast : (k : ℕ) → k ≡ 17 → frameKind k ≡ 1
+kind-multicast k e = simp (eq-eqb _ _ e)
 
-pub take-run : (bytes : List ℕ) (n i : ℕ) → i + n ≤ length bytes → take n (drop i bytes) ≡ run n i bytes
-take-run bytes zero i h = refl
-take-run bytes (suc n) i h =
-    ap (take (suc n)) (drop-cons bytes i 0 (omega arith))
-    ∙ ap (λ (l : List ℕ). getD bytes i 0 ∷ l) (take-run bytes n (suc i) (omega arith))
+pub kind-propose : (k : ℕ) → (k ≡ 17 → ⊥) → frameKind k ≡ 2
+kind-propose k n = simp (ne-eqb _ _ n)
+
+-- the frame of a step record that goes on, in the first bytes of what the code made of it
+module _ (n : ℕ) (bytes made : List ℕ) (go : stops n bytes ≡ false) (step : kindIn bytes ≡ 16 → ⊥) (kind size : ℕ)
+    (is-kind : kind ≡ frameKind (kindIn bytes)) (is-size : size + 1 ≡ recordTotal (kindIn bytes)) (body : ℕ) (is-body : body + 1 ≡ size)
+    (is : take (body + 1) made ≡ kind ∷ take body (drop 2 bytes)) where
+  by-parts : (k m : ℕ) → kind ≡ k → body ≡ m → take size made ≡ k ∷ take m (drop 2 bytes)
+  by-parts k m e f =
+      ap (λ (i : ℕ). take i made) (sym is-body) ∙ is ∙ ap₂ (λ (x i : ℕ). x ∷ take i (drop 2 bytes)) e f
+
+  pub frame-made : take size made ≡ frameIn bytes
+  unfolding recordTotal known body sum
+  frame-made =
+      split (eqb (kindIn bytes) 17)
+      (λ t. let e = eqb-true (kindIn bytes) 17 t in
+      let seven : recordTotal (kindIn bytes) ≡ 7 = ap recordTotal e in
+      by-parts 1 5 (is-kind ∙ kind-multicast (kindIn bytes) e) (omega arith) ∙ sym (frame-multicast bytes e))
+      (λ t. let e = eqb-false (kindIn bytes) 17 t in
+      let ten = total-propose (kindIn bytes) step e (goes-known n bytes go) in
+      by-parts 2 8 (is-kind ∙ kind-propose (kindIn bytes) e) (omega arith) ∙ sym (frame-propose bytes e))
+
+-- one byte of the body more, where the first bytes are the kind and some of the body
+pub body-more : (made bytes : List ℕ) (kind i : ℕ) → i + 1 < length made → i + 2 < length bytes
+    → take (i + 1) made ≡ kind ∷ take i (drop 2 bytes)
+    → take (i + 1 + 1) (set made (i + 1) (getD bytes (i + 2) 0)) ≡ kind ∷ take (i + 1) (drop 2 bytes)
+body-more made bytes kind i h g e =
+    ap (λ (m : ℕ). take m (set made (i + 1) (getD bytes (i + 2) 0))) (add-one (i + 1))
+    ∙ take-suc-set made (i + 1) (getD bytes (i + 2) 0) h
+    ∙ ap₂ (λ (l : List ℕ) (x : ℕ). l ++ (x ∷ [])) e (sym (getD-drop 2 bytes i 0 ∙ ap (λ (m : ℕ). getD bytes m 0) (add-comm 2 i)))
+    ∙ ap (λ (l : List ℕ). kind ∷ l) (sym (take-suc (drop 2 bytes) i 0 (omega (arith, length-drop 2 bytes)))
+    ∙ ap (λ (m : ℕ). take m (drop 2 bytes)) (sym (add-one i)))
 
 -- a list made place by place
 module _ {A : Type 0} (d : A) (f : ℕ → A) where
@@ -122,29 +208,13 @@ module _ {A : Type 0} (d : A) (f : ℕ → A) where
   pub places-all : (xs : List A) (n : ℕ) → length xs ≡ n → ((k : ℕ) → k < n → getD xs k d ≡ f k) → xs ≡ listed n f
   places-all xs n e all = sym (listed-places xs n d e) ∙ listed-same n (λ k. getD xs k d) f all
 
--- N and the target, by the tests of the code
-pub group-none : (n : ℕ) → n < 1 → lawfulGroup n ≡ false
-group-none n h = simp (lt-leb _ _ h)
+-- a ledger of a group has its place
+module _ (n target : ℕ) (e : isLedgerOf n target ≡ true) where
+  pub target-first : 1 ≤ target
+  target-first = leb-true _ _ (and-left (leb 1 target) _ (and-right (isGroup n) _ e))
 
-pub group-some : (n : ℕ) → 1 ≤ n → lawfulGroup n ≡ leb n 8
-group-some n h = simp (le-leb _ _ h)
-
-module _ (g : Group) (target : ℕ) where
-  pub target-nowhere : lawfulGroup (g .count) ≡ false → lawfulTarget g target ≡ false
-  target-nowhere e = simp e
-
-  pub target-none : lawfulGroup (g .count) ≡ true → target < 1 → lawfulTarget g target ≡ false
-  target-none e h = simp (e, lt-leb _ _ h)
-
-  pub target-some : lawfulGroup (g .count) ≡ true → 1 ≤ target → lawfulTarget g target ≡ leb target (g .count)
-  target-some e h = simp (e, le-leb _ _ h)
-
-  -- a lawful target has its place
-  pub target-first : lawfulTarget g target ≡ true → 1 ≤ target
-  target-first e = leb-true _ _ (and-left (leb 1 target) _ (and-right (lawfulGroup (g .count)) _ e))
-
-  pub target-last : lawfulTarget g target ≡ true → target ≤ 8
-  target-last e =
-      let within = leb-true target (g .count) (and-right (leb 1 target) (leb target (g .count)) (and-right (lawfulGroup (g .count)) _ e)) in
-      let most = leb-true (g .count) 8 (and-right (leb 1 (g .count)) (leb (g .count) 8) (and-left (lawfulGroup (g .count)) _ e)) in
+  pub target-last : target ≤ 8
+  target-last =
+      let within = leb-true target n (and-right (leb 1 target) (leb target n) (and-right (isGroup n) _ e)) in
+      let most = leb-true n 8 (and-right (leb 1 n) (leb n 8) (and-left (isGroup n) _ e)) in
       omega arith

@@ -3,7 +3,7 @@
 use Prim.Native.Nat.{ℕ}
 use mathlib.Core.Path.{_≡_}
 use mathlib.Core.List.{List}
-use Rattle.common.proofs.Settled.{one-outcome, told-apart}
+use Rattle.common.proofs.Settled.{one-outcome, same-told}
 use Rattle.records.specs.Records.{Outcome, noGroup, outcome, recordTotal, turn}
 use Rattle.records.specs.declared.Group.{Group}
 use Rattle.records.specs.declared.Turn.{Turn}
@@ -17,4 +17,4 @@ nothing-settled r s p q = one-outcome p q
 -- of a turn: the group, what the record did, and the posting list to its last place
 pub turn-settled : (g : Group) (bytes list : List ℕ) (r s : Turn) (b c : List ℕ)
     → outcome r b ≡ turn g bytes list → outcome s c ≡ turn g bytes list → (r ≡ s) × (b ≡ c)
-turn-settled g bytes list r s b c = told-apart {A = Outcome} (λ o. record { group = o .group; did = o .did }) (λ o. o .list)
+turn-settled g bytes list r s b c = same-told {A = Outcome} (λ o. record { group = o .group; did = o .did }) (λ o. o .list)

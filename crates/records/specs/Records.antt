@@ -2,13 +2,13 @@
 -- Assumes nothing.
 use Prim.Native.Nat.{ℕ, suc, _-_}
 use mathlib.Core.List.{List, [], _∷_}
-use mathlib.Core.Bool.{Bool, not, _&&_, _||_, cond}
+use mathlib.Core.Bool.{Bool, not, _||_, cond}
 use lib.ListN.{length, getD, take, drop, set, replicate}
-use lib.Dec.{eqb, leb, ltb}
+use lib.Dec.{eqb, ltb}
 use Rattle.common.specs.Places.{listed}
 use Rattle.frame.specs.Digits.{sum}
-use Rattle.frame.specs.Frames.{Row, kindIn, known, multicast, propose, totalIn}
-use Rattle.payment.specs.Ledgers.{mostLedgers}
+use Rattle.frame.specs.Frames.{Row, kindIn, known, multicast, propose, total, totalIn}
+use Rattle.ledgers.specs.Ledgers.{isGroup, isLedgerOf, mostLedgers}
 use Rattle.ledger.specs.State.{fresh, setUp}
 use Rattle.ledger.specs.Step.{step}
 use Rattle.ledger.specs.declared.Ledger.{Ledger}
@@ -40,21 +40,14 @@ recordTotal kind = cond (known records kind) (totalIn records kind) 0
 abbrev pub secondIn : List ℕ → ℕ
 secondIn bytes = getD bytes 1 0
 
--- N from 1 to 8
-abbrev pub lawfulGroup : ℕ → Bool
-lawfulGroup n = leb 1 n && leb n mostLedgers
-
--- a target is from 1 to N; a group whose N is not from 1 to 8 has none: N is 0 before any set-up
-abbrev pub lawfulTarget : Group → ℕ → Bool
-lawfulTarget g target = lawfulGroup (g .count) && (leb 1 target && leb target (g .count))
-
--- a record with an unknown kind, cut short, a step before any set-up, or with bad N or target (outside 1 to N) ends the run (no byte
--- at all is a record cut before its kind; the program asks only where there is a byte)
-unfoldable pub stops : Group → List ℕ → Bool
-stops g bytes =
+-- a record with an unknown kind, cut short, a step before any set-up, or with bad N or target (outside 1 to N) ends the run; the
+-- group's own N, here n, is 0 before any set-up (no byte at all is a record cut before its kind; the program asks only where there is
+-- a byte)
+unfoldable pub stops : ℕ → List ℕ → Bool
+stops n bytes =
     not (known records (kindIn bytes))
     || (ltb (length bytes) (recordTotal (kindIn bytes))
-    || cond (eqb (kindIn bytes) (setUpRecord .kind)) (not (lawfulGroup (secondIn bytes))) (not (lawfulTarget g (secondIn bytes))))
+    || cond (eqb (kindIn bytes) (setUpRecord .kind)) (not (isGroup (secondIn bytes))) (not (isLedgerOf n (secondIn bytes))))
 
 -- N ledgers afresh; a place beyond N, whose set-up is refused, is all zero
 unfoldable pub started : ℕ → Group
@@ -67,6 +60,10 @@ noGroup = record { count = 0; ledgers = replicate mostLedgers (fresh 0 0) }
 -- the frame of a step record: the frame's own kind, and the body bytes after the target
 abbrev pub carried : Row → List ℕ → List ℕ
 carried row bytes = row .kind ∷ take (sum (row .body)) (drop 2 bytes)
+
+-- for the code: the frame's kind alone, by the record's kind
+abbrev pub frameKind : ℕ → ℕ
+frameKind kind = cond (eqb kind (multicastRecord .kind)) (multicast .kind) (propose .kind)
 
 -- the frame of a record of kind 17, or else of kind 18
 unfoldable pub frameIn : List ℕ → List ℕ
@@ -91,7 +88,7 @@ outcome r list = record { group = r .group; did = r .did; list = list }
 -- a step: the target ledger takes the frame; what it sends goes nowhere (the drill routes nothing itself)
 unfoldable pub stepped : Group → ℕ → List ℕ → List ℕ → Outcome
 stepped g target frame list =
-    let after = step (ledgerOf g target) frame (replicate 9 0) list in
+    let after = step (ledgerOf g target) frame (replicate (total (propose .kind)) 0) list in
     record {
       group = record { count = g .count; ledgers = set (g .ledgers) (target - 1) (after .state) };
       did = Step target (after .answer) (after .postings);
@@ -105,7 +102,7 @@ stopped g list = record { group = g; did = Stop; list = list }
 -- what the record at the start of bytes does
 unfoldable pub turn : Group → List ℕ → List ℕ → Outcome
 turn g bytes list =
-    cond (stops g bytes)
+    cond (stops (g .count) bytes)
     (stopped g list)
     (cond (eqb (kindIn bytes) (setUpRecord .kind))
     (record { group = started (secondIn bytes); did = SetUp (secondIn bytes); list = list })

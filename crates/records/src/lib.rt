@@ -1,15 +1,19 @@
 // The drill's records: how long one is, and what one does to a group of ledgers (document 01, "The drill").
 use frame::LedgerNo;
+use frame::MULTICAST;
+use frame::PROPOSE;
+use frame::PROPOSE_TOTAL;
 use ledger::Ledger;
 ghost use mathlib.Core.Path.{_≡_};
-ghost use Prim.Native.Nat.{_≤_};
-ghost use lib.ListN.{length};
+ghost use mathlib.Core.List.{_∷_};
+ghost use Prim.Native.Nat.{_+_, _≤_};
+ghost use lib.ListN.{drop, length, take};
 ghost use mathlib.Core.Bool.{true};
-ghost use Rattle.frame.specs.Frames.{multicast, propose};
-ghost use Rattle.records.specs.Records.{carried, lawfulGroup, lawfulTarget, noGroup, outcome, recordTotal, started, stepped, turn};
+ghost use Rattle.ledgers.specs.Ledgers.{isLedgerOf};
+ghost use Rattle.records.specs.Records.{frameKind, noGroup, outcome, recordTotal, started, stepped, stops, turn};
 
 // The most ledgers of a group.
-pub const LEDGERS: usize = 8;
+pub const LEDGERS: usize = ledgers::MOST as usize;
 
 // N, and the ledgers 1 to N at the first places; N is 0 before any set-up.
 pub struct Group {
@@ -40,9 +44,9 @@ pub struct Turn {
 
 const SET_UP: u8 = 16;
 
-const MULTICAST: u8 = 17;
+const MULTICAST_RECORD: u8 = 17;
 
-const PROPOSE: u8 = 18;
+const PROPOSE_RECORD: u8 = 18;
 
 // How many bytes a record of this kind has; 0 where the kind is unknown.
 pub fn total(kind: u8) -> usize
@@ -51,10 +55,10 @@ pub fn total(kind: u8) -> usize
     if kind == SET_UP {
         return 2;
     }
-    if kind == MULTICAST {
+    if kind == MULTICAST_RECORD {
         return 7;
     }
-    if kind == PROPOSE {
+    if kind == PROPOSE_RECORD {
         return 10;
     }
     0
@@ -68,15 +72,6 @@ pub fn nothing() -> Group
         count: 0,
         ledgers: [ledger::nothing(); LEDGERS],
     }
-}
-
-fn is_group(count: u8) -> bool
-    ensures { λ r. ⌜ r ≡ lawfulGroup count ⌝ }
-{
-    if count < 1 {
-        return false;
-    }
-    count as usize <= LEDGERS
 }
 
 // So many ledgers afresh; the other places are all zero.
@@ -96,53 +91,55 @@ fn start(count: u8) -> Group
     }
 }
 
-// The frame in a record of kind 17.
-fn multicast_in(bytes: &[u8]) -> [u8; 6]
-    requires { ⌜ 7 ≤ length (now bytes) ⌝ }
-    ensures { λ r. ⌜ r ≡ carried multicast (now (bytes .entry)) ⌝ }
+// Whether the record at the start of the bytes ends the run of a group of so many ledgers.
+fn ends(count: u8, bytes: &[u8]) -> bool
+    ensures { λ r. ⌜ r ≡ stops count (now (bytes .entry)) ⌝ }
 {
-    [1, bytes[2], bytes[3], bytes[4], bytes[5], bytes[6]]
+    if bytes.len() == 0 {
+        return true;
+    }
+    let kind = bytes[0];
+    let size = total(kind);
+    if (size == 0) | (bytes.len() < size) {
+        return true;
+    }
+    let second = bytes[1];
+    if kind == SET_UP {
+        return !ledgers::is_group(second);
+    }
+    !ledgers::is_ledger_of(count, LedgerNo(second))
 }
 
-// The frame in a record of kind 18.
-fn propose_in(bytes: &[u8]) -> [u8; 9]
-    requires { ⌜ 10 ≤ length (now bytes) ⌝ }
-    ensures { λ r. ⌜ r ≡ carried propose (now (bytes .entry)) ⌝ }
+// The kind of the frame in a step record.
+fn frame_kind(kind: u8) -> u8
+    ensures { λ r. ⌜ r ≡ frameKind kind ⌝ }
 {
-    [
-        2,
-        bytes[2],
-        bytes[3],
-        bytes[4],
-        bytes[5],
-        bytes[6],
-        bytes[7],
-        bytes[8],
-        bytes[9],
-    ]
+    if kind == MULTICAST_RECORD {
+        return MULTICAST;
+    }
+    PROPOSE
+}
+
+// The frame in a step record: its kind, and the body bytes behind the target.
+fn frame_in(kind: u8, body: usize, bytes: &[u8]) -> [u8; PROPOSE_TOTAL]
+    requires { ⌜ (body ≤ 8) × (body + 2 ≤ length (now bytes)) ⌝ }
+    ensures { λ r. ⌜ take (body + 1) r ≡ kind ∷ take body (drop 2 (now (bytes .entry))) ⌝ }
+{
+    let mut frame = [kind; PROPOSE_TOTAL];
+    for i in 0..body {
+        frame[i + 1] = bytes[i + 2];
+    }
+    frame
 }
 
 impl Group {
-    // Whether there is such a ledger to step.
-    fn has(self, target: u8) -> bool
-        ensures { λ r. ⌜ r ≡ lawfulTarget self target ⌝ }
-    {
-        if is_group(self.count) {
-            if target < 1 {
-                return false;
-            }
-            return target <= self.count;
-        }
-        false
-    }
-
     // The target ledger takes a frame; what it sends is dropped.
     fn step(mut self, target: u8, frame: &[u8], postings: &mut [u32]) -> Turn
-        requires { ⌜ lawfulTarget self target ≡ true ⌝ }
+        requires { ⌜ isLedgerOf (self .count) target ≡ true ⌝ }
         ensures { λ r. ⌜ outcome r (now (postings .exit)) ≡ stepped self target (now (frame .entry)) (now (postings .entry)) ⌝ }
     {
         let at = (target - 1) as usize;
-        let mut outgoing = [0u8; 9];
+        let mut outgoing = [0u8; PROPOSE_TOTAL];
         let ledger = self.ledgers[at];
         let done = ledger.step(frame, &mut outgoing, postings);
         let state = done.state;
@@ -157,48 +154,26 @@ impl Group {
         }
     }
 
-    fn stop(self) -> Turn
-        ensures { λ r. ⌜ r ≡ record { group = self; did = Did.Stop } ⌝ }
-    {
-        Turn {
-            group: self,
-            did: Did::Stop,
-        }
-    }
-
     // What the record at the start of the bytes does.
     pub fn turn(self, bytes: &[u8], postings: &mut [u32]) -> Turn
         ensures { λ r. ⌜ outcome r (now (postings .exit)) ≡ turn self (now (bytes .entry)) (now (postings .entry)) ⌝ }
     {
-        if bytes.len() == 0 {
-            return self.stop();
+        if ends(self.count, bytes) {
+            return Turn {
+                group: self,
+                did: Did::Stop,
+            };
         }
         let kind = bytes[0];
-        let size = total(kind);
-        if size == 0 {
-            return self.stop();
-        }
-        if bytes.len() < size {
-            return self.stop();
-        }
         let second = bytes[1];
         if kind == SET_UP {
-            if is_group(second) {
-                return Turn {
-                    group: start(second),
-                    did: Did::SetUp { count: second },
-                };
-            }
-            return self.stop();
+            return Turn {
+                group: start(second),
+                did: Did::SetUp { count: second },
+            };
         }
-        if self.has(second) {
-            if kind == MULTICAST {
-                let frame = multicast_in(bytes);
-                return self.step(second, &frame, postings);
-            }
-            let frame = propose_in(bytes);
-            return self.step(second, &frame, postings);
-        }
-        self.stop()
+        let size = total(kind) - 1;
+        let frame = frame_in(frame_kind(kind), size - 1, bytes);
+        self.step(second, &frame[..size], postings)
     }
 }

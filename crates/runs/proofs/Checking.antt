@@ -1,35 +1,22 @@
 -- A test of calls: where it passes, they are a run.
 -- Assumes nothing.
-use Prim.Native.Nat.{ℕ, _^_, _≤_}
-use mathlib.Core.Path.{_≡_, refl, ap, ap₂, _∙_}
+use Rattle.agreement.proofs.Few.{few-in-all}
+use Rattle.common.proofs.MemberLaws.{same-numbers}
+use Prim.Native.Nat.{ℕ, _^_}
+use mathlib.Core.Path.{_≡_, refl, ap, _∙_}
 use mathlib.Core.List.{List, [], _∷_}
 use mathlib.Core.Bool.{Bool, true, false, not, _&&_, _||_}
 use mathlib.Core.Logic.{_⊎_, inl, inr, ⊎-elim}
-use native.Mathlib.Nat.{le-trans}
 use lib.Dec.{eqb, leb, ltb}
 use lib.ListN.{getD, length}
-use borrow.Author.Tests.{eq-eqb, eqb-false, eqb-true, leb-true, ltb-true, not-true}
-use Rattle.common.specs.Places.{In, count, every}
+use borrow.Author.Tests.{eq-eqb, eqb-false, leb-true, ltb-true, not-true}
+use Rattle.common.specs.Places.{In, every, sameNumbers}
 use Rattle.common.proofs.PlaceLaws.{every-at}
 use Rattle.common.proofs.TestLaws.{and-left, and-right, both, or-cases}
 use Rattle.frame.specs.Frames.{propose, total}
-use Rattle.payment.specs.Ledgers.{has}
+use Rattle.ledgers.specs.Ledgers.{has}
 use Rattle.held.specs.Held.{limit}
 use Rattle.agreement.specs.Run.{Call, Calls, Entry, Lawful, May, Run, World, after, multicastCopy, noEntry}
-use Rattle.common.proofs.CountLaws.{count-most}
-
-unfoldable pub sameBytes : List ℕ → List ℕ → Bool
-sameBytes [] [] = true
-sameBytes [] (y ∷ ys) = false
-sameBytes (x ∷ xs) [] = false
-sameBytes (x ∷ xs) (y ∷ ys) = eqb x y && sameBytes xs ys
-
-same-bytes : (xs ys : List ℕ) → sameBytes xs ys ≡ true → xs ≡ ys
-unfolding sameBytes
-same-bytes [] [] e = refl
-same-bytes [] (y ∷ ys) e = both e refl
-same-bytes (x ∷ xs) [] e = both e refl
-same-bytes (x ∷ xs) (y ∷ ys) e = ap₂ _∷_ (eqb-true x y (and-left (eqb x y) _ e)) (same-bytes xs ys (and-right (eqb x y) _ e))
 
 module _ {A : Type 0} (f : A → Bool) where
   unfoldable pub anyOf : List A → Bool
@@ -64,19 +51,19 @@ lawfulTable n table =
 not-zero : (m : ℕ) → not (eqb m 0) ≡ true → m ≡ 0 → ⊥
 not-zero m e = eqb-false m 0 (not-true _ e)
 
--- a table of no more payments than a ledger holds gives no ledger too many
-pub few-in-all : (table : List Entry) → length table ≤ limit → (f : ℕ → Bool) → count (length table) f ≤ limit
-few-in-all table h f = le-trans (count-most (length table) f) h
-
 lawful-so : (n : ℕ) (table : List Entry) → lawfulTable n table ≡ true → Lawful n table
 unfolding lawfulTable
 lawful-so n table e =
     let e₁ = and-right (leb 1 n && leb n 8) _ e in
     let e₂ = and-right (leb (length table) limit) _ e₁ in
-    let different = and-left (every (length table) (λ j. every j (λ i. not (eqb (getD table i noEntry .number) (getD table j noEntry .number))))) _ e₂ in
-    let e₃ = and-right (every (length table) (λ j. every j (λ i. not (eqb (getD table i noEntry .number) (getD table j noEntry .number))))) _ e₂ in
-    let numbers = every-of (λ e. not (eqb (e .number) 0) && ltb (e .number) (2 ^ 32)) table (and-left (everyOf (λ e. not (eqb (e .number) 0) && ltb (e .number) (2 ^ 32)) table) _ e₃) in
-    let ways = every-of (λ e. not (eqb (e .destinations) 0) && ltb (e .destinations) (2 ^ n)) table (and-right (everyOf (λ e. not (eqb (e .number) 0) && ltb (e .number) (2 ^ 32)) table) _ e₃) in
+    let different = and-left (every (length table) (λ j. every j
+    (λ i. not (eqb (getD table i noEntry .number) (getD table j noEntry .number))))) _ e₂ in
+    let e₃ = and-right (every (length table) (λ j. every j (λ i. not
+    (eqb (getD table i noEntry .number) (getD table j noEntry .number))))) _ e₂ in
+    let numbers = every-of (λ e. not (eqb (e .number) 0) && ltb (e .number) (2 ^ 32)) table
+    (and-left (everyOf (λ e. not (eqb (e .number) 0) && ltb (e .number) (2 ^ 32)) table) _ e₃) in
+    let ways = every-of (λ e. not (eqb (e .destinations) 0) && ltb (e .destinations) (2 ^ n)) table
+    (and-right (everyOf (λ e. not (eqb (e .number) 0) && ltb (e .number) (2 ^ 32)) table) _ e₃) in
     record {
       ledgers = (
         leb-true _ _ (and-left (leb 1 n) _ (and-left (leb 1 n && leb n 8) _ e)),
@@ -84,7 +71,8 @@ lawful-so n table e =
       );
       differ = λ i j h g q. both
           (every-at j (λ i. not (eqb (getD table i noEntry .number) (getD table j noEntry .number)))
-          (every-at (length table) (λ j. every j (λ i. not (eqb (getD table i noEntry .number) (getD table j noEntry .number)))) different j g) i h)
+          (every-at (length table) (λ j. every j (λ i. not (eqb (getD table i noEntry .number)
+          (getD table j noEntry .number)))) different j g) i h)
           (ap not (eq-eqb _ _ q));
       number = λ x i. (
         not-zero (x .number) (and-left (not (eqb (x .number) 0)) _ (numbers x i)),
@@ -103,8 +91,8 @@ mayCall n table w c =
     (leb 1 (c .to) && leb (c .to) n)
     && (leb (total (propose .kind)) (length (c .outgoing))
     && (leb limit (length (c .list))
-    && (anyOf (λ e. sameBytes (c .frame) (multicastCopy e) && has (e .destinations) (c .to)) table
-    || anyOf (λ x. sameBytes (c .frame) (x .frame) && has (x .recipients) (c .to)) (w .written))))
+    && (anyOf (λ e. sameNumbers (c .frame) (multicastCopy e) && has (e .destinations) (c .to)) table
+    || anyOf (λ x. sameNumbers (c .frame) (x .frame) && has (x .recipients) (c .to)) (w .written))))
 
 may-so : (n : ℕ) (table : List Entry) (w : World) (c : Call) → mayCall n table w c ≡ true → May n table w c
 unfolding mayCall
@@ -121,21 +109,21 @@ may-so n table w c e =
       list = leb-true _ _ (and-left (leb limit (length (c .list))) _ e₂);
       copy =
           ⊎-elim
-          (λ t. let r = any-of (λ e. sameBytes (c .frame) (multicastCopy e) && has (e .destinations) (c .to)) table t in
+          (λ t. let r = any-of (λ e. sameNumbers (c .frame) (multicastCopy e) && has (e .destinations) (c .to)) table t in
           inl (record {
             entry = r .0;
             in-table = r .1;
-            frame = same-bytes (c .frame) (multicastCopy (r .0)) (and-left (sameBytes (c .frame) (multicastCopy (r .0))) _ (r .2));
-            destination = and-right (sameBytes (c .frame) (multicastCopy (r .0))) _ (r .2);
+            frame = same-numbers (c .frame) (multicastCopy (r .0)) (and-left (sameNumbers (c .frame) (multicastCopy (r .0))) _ (r .2));
+            destination = and-right (sameNumbers (c .frame) (multicastCopy (r .0))) _ (r .2);
           }))
-          (λ t. let r = any-of (λ x. sameBytes (c .frame) (x .frame) && has (x .recipients) (c .to)) (w .written) t in
+          (λ t. let r = any-of (λ x. sameNumbers (c .frame) (x .frame) && has (x .recipients) (c .to)) (w .written) t in
           inr (record {
             propose = r .0;
             written = r .1;
-            frame = same-bytes (c .frame) (r .0 .frame) (and-left (sameBytes (c .frame) (r .0 .frame)) _ (r .2));
-            recipient = and-right (sameBytes (c .frame) (r .0 .frame)) _ (r .2);
+            frame = same-numbers (c .frame) (r .0 .frame) (and-left (sameNumbers (c .frame) (r .0 .frame)) _ (r .2));
+            recipient = and-right (sameNumbers (c .frame) (r .0 .frame)) _ (r .2);
           }))
-          (or-cases (anyOf (λ e. sameBytes (c .frame) (multicastCopy e) && has (e .destinations) (c .to)) table) _ e₃);
+          (or-cases (anyOf (λ e. sameNumbers (c .frame) (multicastCopy e) && has (e .destinations) (c .to)) table) _ e₃);
     }
 
 unfoldable pub mayAll : ℕ → List Entry → List Call → Bool
@@ -145,8 +133,10 @@ mayAll n table (c ∷ cs) = mayCall n table (after n cs) c && mayAll n table cs
 calls-so : (n : ℕ) (table : List Entry) (cs : List Call) → mayAll n table cs ≡ true → Calls n table cs
 unfolding mayAll
 calls-so n table [] e = tt
-calls-so n table (c ∷ cs) e =
-    (may-so n table (after n cs) c (and-left (mayCall n table (after n cs) c) _ e), calls-so n table cs (and-right (mayCall n table (after n cs) c) _ e))
+calls-so n table (c ∷ cs) e = (
+  may-so n table (after n cs) c (and-left (mayCall n table (after n cs) c) _ e),
+  calls-so n table cs (and-right (mayCall n table (after n cs) c) _ e),
+)
 
 -- the test of a run
 unfoldable pub isRun : ℕ → List Entry → List Call → Bool

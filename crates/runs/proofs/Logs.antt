@@ -4,23 +4,10 @@ use mathlib.Core.Path.{_≡_, refl}
 use mathlib.Core.List.{[], _∷_, _++_}
 use lib.ListN.{replicate}
 use mathlib.Core.Bool.{true}
-use Rattle.common.specs.Order.{insert, sorted}
-use Rattle.common.specs.Places.{any, count, every, first, listed}
-use Rattle.frame.specs.Digits.{bytesOf, numberOf, pack, sum, unpack}
-use Rattle.frame.specs.Frames.{body, known, notAFrame, writingOf}
-use Rattle.payment.specs.Ledgers.{has, with, without}
-use Rattle.payment.specs.Payments.{greatest, hear, timeIn, unlawful}
-use Rattle.payment.specs.Right.{heardRight, notAboveClock, timesDiffer, phaseRight, unused}
-use Rattle.payment.specs.Stamps.{below}
-use Rattle.held.specs.Checked.{comesAfter}
-use Rattle.held.specs.Posting.{afterPosting, holdsBack, isFree, posting}
-use Rattle.ledger.specs.Refusals.{firstGiven}
-use Rattle.ledger.specs.Sound.{sound}
-use Rattle.ledger.specs.State.{setUp}
-use Rattle.ledger.specs.Step.{multicastRule, proposeRule, postRule, stampRule, step}
+use Rattle.ledger.proofs.Computing.{computing}
 use Rattle.agreement.specs.Run.{Run, after, called}
 use Rattle.runs.specs.Runs.{callsL, callsOfThree, tableL, tableOfThree}
-use Rattle.runs.proofs.Checking.{anyOf, everyOf, is-run, isRun, lawfulTable, mayAll, mayCall, sameBytes}
+use Rattle.runs.proofs.Checking.{anyOf, everyOf, is-run, isRun, lawfulTable, mayAll, mayCall}
 
 -- ledgers 1 and 2 post 9 before 7, as the drill prints
 abbrev pub LogsL : Type 0
@@ -37,13 +24,7 @@ LogsOfThree =
 -- that came once more
 computed : (isRun 2 tableL callsL ≡ true) × (isRun 3 tableOfThree callsOfThree ≡ true) × LogsL × LogsOfThree
     × (after 3 callsOfThree .answers ≡ replicate 7 0 ++ (9 ∷ replicate 6 0) ++ (9 ∷ replicate 4 0))
-unfolding
-    callsL callsOfThree after called isRun mayAll mayCall lawfulTable everyOf anyOf sameBytes
-    step postRule stampRule proposeRule multicastRule setUp sound firstGiven
-    posting afterPosting isFree holdsBack comesAfter
-    below unused phaseRight timesDiffer notAboveClock heardRight unlawful timeIn hear greatest has with without
-    writingOf notAFrame known body unpack sum pack numberOf bytesOf
-    any count every first listed insert sorted
+unfolding computing callsL callsOfThree after called isRun mayAll mayCall lawfulTable everyOf anyOf
 computed = (refl, refl, (refl, refl), (refl, refl, refl), refl)
 
 pub l-is-a-run : Run 2 tableL callsL

@@ -7,9 +7,9 @@ use borrow.Author.Tests.{eq-eqb, eqb-true}
 use Rattle.common.proofs.PlaceLaws.{every-all, every-at}
 use Rattle.common.proofs.TestLaws.{and-both, and-left, and-right, both, split}
 use Rattle.payment.specs.Payments.{heardFrom, hasProposal, timeFrom}
-use Rattle.payment.specs.Right.{timesDiffer}
+use Rattle.right.specs.Right.{timesDiffer}
 use Rattle.payment.specs.declared.Payment.{Payment}
-use Rattle.payment.proofs.KeptLaws.{otherTimes-proposed}
+use Rattle.right.proofs.RightLaws.{differ-shared}
 
 -- no ledger was heard for both with the same time
 abbrev pub Apart : Payment → Payment → Type 0
@@ -17,12 +17,13 @@ Apart p q = (k : ℕ) → k < 8 → heardFrom p (suc k) ≡ true → heardFrom q
 
 pub apart-at : (p q : Payment) → timesDiffer p q ≡ true → Apart p q
 apart-at p q e k h a b t =
-    let shared = every-at 8 (λ k. not (heardFrom p (suc k) && hasProposal q (suc k) (timeFrom p (suc k)))) (sym (otherTimes-proposed p q) ∙ e) k h in
+    let shared = every-at 8 (λ k. not (heardFrom p (suc k) && hasProposal q (suc k) (timeFrom p (suc k))))
+    (sym (differ-shared p q) ∙ e) k h in
     both shared (ap not (and-both a (and-both b (eq-eqb _ _ (sym t)))))
 
 pub apart-so : (p q : Payment) → Apart p q → timesDiffer p q ≡ true
 apart-so p q f =
-    otherTimes-proposed p q
+    differ-shared p q
     ∙ every-all 8 (λ k. not (heardFrom p (suc k) && hasProposal q (suc k) (timeFrom p (suc k))))
     (λ k h. split (heardFrom p (suc k) && hasProposal q (suc k) (timeFrom p (suc k)))
     (λ t. let r = and-right (heardFrom p (suc k)) _ t in

@@ -10,20 +10,19 @@ use lib.Dec.{eqb, leb, ltb}
 use borrow.Author.Tests.{eq-eqb, eqb-false, le-leb, leb-true, ltb-false, ne-eqb, not-false, not-true}
 use Rattle.common.proofs.PlaceLaws.{any-none}
 use Rattle.common.proofs.TestLaws.{and-both, and-go, and-left, and-right, both, or-go, or-left, or-right, split}
-use Rattle.payment.specs.Ledgers.{has}
-use Rattle.payment.specs.Payments.{hasStamp, hear, heardFrom, isPosted, isStamped, keeps, lastTime, proposed, stampOf, timeFrom}
-use Rattle.payment.specs.Right.{notAboveClock}
+use Rattle.ledgers.specs.Ledgers.{has, isGroup, isLedgerOf}
+use Rattle.payment.specs.Payments.{hasStamp, hear, heardFrom, inPhase, isPosted, isStamped, keeps, lastTime, proposed, stampOf, timeFrom}
+use Rattle.right.specs.Right.{notAboveClock}
 use Rattle.payment.specs.declared.Payment.{Payment}
 use Rattle.payment.proofs.HearLaws.{Hears, hear-phase, hears}
 use Rattle.payment.proofs.KeptLaws.{keeps-proposes}
-use Rattle.payment.proofs.LedgerLaws.{place}
+use Rattle.ledgers.proofs.LedgerLaws.{place}
 use Rattle.held.specs.Held.{at, isNumber, limit}
-use Rattle.held.proofs.ReflectLaws.{each-at}
+use Rattle.checked.proofs.ReflectLaws.{each-at}
 use Rattle.ledger.specs.Sound.{inRange}
-use Rattle.ledger.specs.State.{lawfulSetUp}
-use Rattle.ledger.specs.Refusals.{otherDestinations, isPropose, anotherTime}
-use Rattle.ledger.specs.Step.{inPhase, newOwnTime, paymentFor, placeFor}
-use Rattle.ledger.specs.declared.Incoming.{Incoming}
+use Rattle.refusals.specs.Refusals.{otherDestinations, isPropose, anotherTime}
+use Rattle.ledger.specs.Step.{newOwnTime, paymentFor, placeFor}
+use Rattle.refusals.specs.declared.Incoming.{Incoming}
 use Rattle.ledger.specs.declared.Ledger.{Ledger}
 use Rattle.ledger.proofs.JudgeLaws.{clock-range}
 use Rattle.ledger.proofs.SoundLaws.{Almost}
@@ -34,19 +33,20 @@ use Rattle.soundness.proofs.Taking.{Brings, own-among}
 stamp-below : (p : Payment) (own clock : ℕ) → hasStamp p ≡ true → notAboveClock own clock p ≡ true → stampOf p .time .0 ≤ clock
 unfolding notAboveClock
 stamp-below p own clock h e =
-    ltb-false _ _ (sym (and-go (ltb clock (stampOf p .time .0)) h) ∙ not-true _ (and-right (not (heardFrom p own && ltb clock (timeFrom p own))) _ e))
+    ltb-false _ _ (sym (and-go (ltb clock (stampOf p .time .0)) h)
+    ∙ not-true _ (and-right (not (heardFrom p own && ltb clock (timeFrom p own))) _ e))
 
 -- the ranges of a sound ledger
 module _ (l : Ledger) (range : inRange l ≡ true) where
-  group-is : lawfulSetUp (l .group) (l .own .0) ≡ true
-  group-is = and-left (lawfulSetUp (l .group) (l .own .0)) _ range
+  group-is : isLedgerOf (l .group) (l .own .0) ≡ true
+  group-is = and-left (isLedgerOf (l .group) (l .own .0)) _ range
 
   pub group-range : l .group ≤ 8
-  group-range = leb-true _ _ (and-left (leb (l .group) 8) _ (and-right (leb 1 (l .group)) _ group-is))
+  group-range = leb-true _ _ (and-right (leb 1 (l .group)) _ (and-left (isGroup (l .group)) _ group-is))
 
   pub own-range : (1 ≤ l .own .0) × (l .own .0 ≤ 8)
   own-range =
-      let both-own = and-right (leb (l .group) 8) _ (and-right (leb 1 (l .group)) _ group-is) in
+      let both-own = and-right (isGroup (l .group)) _ group-is in
       let below-group : l .own .0 ≤ l .group = leb-true _ _ (and-right (leb 1 (l .own .0)) _ both-own) in
       let top = group-range in
       (leb-true _ _ (and-left (leb 1 (l .own .0)) _ both-own), omega arith)
@@ -65,7 +65,8 @@ module _ (l : Ledger) (f : Incoming) (s : Almost l) (a : Accepted l f) (b : Base
 
   multicast-heard : Hears (paymentFor l f) multicasted (l .own .0) (l .clock .0 + 1)
   multicast-heard =
-      let v = hears (paymentFor l f) (l .own .0) (newOwnTime l) (own-range l (s .range) .0) (own-range l (s .range) .1) (b .byte) (b .size) in
+      let v = hears (paymentFor l f) (l .own .0) (newOwnTime l) (own-range l (s .range) .0) (own-range l (s .range) .1) (b .byte)
+      (b .size) in
       record {
         number = v .number;
         destinations = v .destinations;
@@ -92,7 +93,8 @@ module _ (l : Ledger) (f : Incoming) (s : Almost l) (a : Accepted l f) (b : Base
         destination = own-among (l .group) (l .own .0) (f .destinations) (a .destinations);
         time = and-both (le-leb 1 (l .clock .0 + 1) (omega arith)) (le-leb (l .clock .0 + 1) lastTime (omega arith));
         fresh = λ j h u o e t.
-            let late = own-below (at (l .payments) j) (l .own .0) (l .clock .0) e (each-at (l .payments) (l .count) (notAboveClock (l .own .0) (l .clock .0)) (s .clock) j h u) in
+            let late = own-below (at (l .payments) j) (l .own .0) (l .clock .0) e
+            (each-at (l .payments) (l .count) (notAboveClock (l .own .0) (l .clock .0)) (s .clock) j h u) in
             omega (arith, late, t);
         so-far = inr (refl, multicast-heard .heard);
         own-time = λ e. subst (λ n. n ≤ l .clock .0 + 1) (sym (multicast-heard .time)) (le-refl _);
@@ -140,8 +142,10 @@ module _ (l : Ledger) (f : Incoming) (s : Almost l) (a : Accepted l f) (b : Base
   fresh-propose : isPropose f ≡ true → (j : ℕ) → j < limit → j < l .count → (j ≡ placeFor l f → ⊥)
       → heardFrom (at (l .payments) j) (f .source .0) ≡ true → timeFrom (at (l .payments) j) (f .source .0) ≡ f .time .0 → ⊥
   fresh-propose k j h u o e t =
-      let none = or-right (anotherTime l f) _ (sym (and-go _ k) ∙ or-right (otherDestinations l f) _ (a .conflict-free)) in
-      let at-j = any-none limit (λ i. not (isNumber (l .payments) (f .payment .0) i) && keeps (at (l .payments) i) (f .source .0) (f .time .0)) none j h in
+      let none = or-right (anotherTime (l .payments) f) _ (sym (and-go _ k)
+      ∙ or-right (otherDestinations (l .payments) f) _ (a .conflict-free)) in
+      let at-j = any-none limit (λ i. not (isNumber (l .payments) (f .payment .0) i) && keeps (at (l .payments) i) (f .source .0)
+      (f .time .0)) none j h in
       let free = sym (and-go (keeps (at (l .payments) j) (f .source .0) (f .time .0)) (ap not (ne-eqb _ _ (b .other j h u o)))) ∙ at-j in
       both (and-both e (eq-eqb _ _ t)) (sym (keeps-proposes (at (l .payments) j) (f .source .0) (f .time .0)) ∙ free)
 
@@ -157,7 +161,8 @@ module _ (l : Ledger) (f : Incoming) (s : Almost l) (a : Accepted l f) (b : Base
         fresh = fresh-propose k;
         so-far = ⊎-elim (λ x. inl (x .0, own .0 ∙ x .1)) (λ x. inr (x .0, own .0 ∙ x .1)) (b .phase);
         own-time = λ e. subst (λ n. n ≤ l .clock .0) (sym (own .1)) (b .own-time (sym (own .0) ∙ e));
-        own-late = λ e j h p. subst (λ n. stampOf (at (l .payments) j) .time .0 < n) (sym (own .1)) (b .posted j h p (phase-own (sym (own .0) ∙ e)));
+        own-late = λ e j h p. subst (λ n. stampOf (at (l .payments) j) .time .0 < n) (sym (own .1))
+            (b .posted j h p (phase-own (sym (own .0) ∙ e)));
         later = le-refl _;
         in-time = clock-range l (s .range);
       }

@@ -9,12 +9,13 @@ use lib.ListN.{getD-replicate, length, length-replicate}
 use Rattle.common.specs.Places.{every}
 use Rattle.common.proofs.TestLaws.{and-both, both, split}
 use Rattle.payment.specs.Payments.{isPosted, timeIn}
-use Rattle.payment.specs.Right.{heardRight, lawful, notAboveClock, numberNotZero, numbersDiffer, timesDiffer, phaseRight, unused}
+use Rattle.right.specs.Right.{heardRight, lawful, notAboveClock, numberNotZero, numbersDiffer, timesDiffer, phaseRight, unused}
 use Rattle.payment.specs.declared.Payment.{Payment}
 use Rattle.held.specs.Held.{at, limit, noPayment}
-use Rattle.held.proofs.FreeLaws.{free-other}
-use Rattle.held.proofs.ReflectLaws.{each-so, none-so, pairs-so, posted-so, unused-so}
-use Rattle.ledger.specs.State.{fresh, lawfulSetUp, unusedPlace}
+use Rattle.posting.proofs.FreeLaws.{free-other, none-so}
+use Rattle.checked.proofs.ReflectLaws.{each-so, pairs-so, posted-so, unused-so}
+use Rattle.ledger.specs.State.{fresh, unusedPlace}
+use Rattle.ledgers.specs.Ledgers.{isLedgerOf}
 use Rattle.ledger.specs.Sound.{each, pairs, sound}
 use Rattle.ledger.proofs.SoundLaws.{clauses, sound-so}
 use Rattle.soundness.specs.Shaped.{Shaped}
@@ -34,7 +35,7 @@ module _ (group own : ℕ) where
   no-pair : (f : Payment → Payment → Bool) → pairs (fresh group own) f ≡ true
   no-pair f = pairs-so (fresh group own .payments) 0 f (λ i j h u l. absurd (not-suc-le-zero u))
 
-  pub fresh-sound : lawfulSetUp group own ≡ true → sound (fresh group own) ≡ true
+  pub fresh-sound : isLedgerOf group own ≡ true → sound (fresh group own) ≡ true
   fresh-sound g =
       sound-so (fresh group own) record {
         kept = record {

@@ -9,20 +9,21 @@ use lib.Dec.{eqb, leb}
 use borrow.Author.Tests.{eqb-false, eqb-true, leb-true, lt-ltb}
 use Rattle.common.proofs.PlaceLaws.{every-all, every-at}
 use Rattle.common.proofs.TestLaws.{and-both, and-right, split}
-use Rattle.payment.specs.Ledgers.{has}
+use Rattle.ledgers.specs.Ledgers.{has}
 use Rattle.payment.specs.Payments.{heardFrom, isTime, lastTime, proposal, stampOf, timeFrom}
-use Rattle.payment.specs.Right.{heardRight, timeRight}
+use Rattle.right.specs.Right.{heardRight, timeRight}
 use Rattle.payment.specs.Stamps.{below}
 use Rattle.payment.specs.declared.Payment.{Payment}
 use Rattle.payment.specs.declared.Stamp.{Stamp}
 use Rattle.payment.proofs.GreatestLaws.{greatest-above, greatest-ledger, greatest-time}
 use Rattle.payment.proofs.HearLaws.{Hears}
-use Rattle.payment.proofs.LedgerLaws.{place}
+use Rattle.ledgers.proofs.LedgerLaws.{place}
 use Rattle.payment.proofs.StampLaws.{below-rank, rank}
 use Rattle.soundness.proofs.Apart.{Apart}
 
 -- hearing keeps what is right about the times
-pub heard-right : (p q : Payment) (w t : ℕ) → Hears p q w t → has (p .destinations) w ≡ true → isTime t ≡ true → heardRight p ≡ true → heardRight q ≡ true
+pub heard-right : (p q : Payment) (w t : ℕ) → Hears p q w t → has (p .destinations) w ≡ true → isTime t ≡ true → heardRight p ≡ true
+    → heardRight q ≡ true
 unfolding heardRight
 heard-right p q w t v d h e =
     every-all 8 (λ k. timeRight q (suc k))
@@ -32,7 +33,8 @@ heard-right p q w t v d h e =
     (ap (λ b. cond b (has (q .destinations) w && isTime (timeFrom q w)) (eqb (timeFrom q w) 0)) (v .heard)
     ∙ and-both (ap (λ x. has x w) (v .destinations) ∙ d) (ap isTime (v .time) ∙ h)))
     (λ a. let other = eqb-false (suc k) w a in
-    ap₂ (λ b d. cond b (has d (suc k) && isTime (timeFrom q (suc k))) (eqb (timeFrom q (suc k)) 0)) (v .heard-other k l other) (v .destinations)
+    ap₂ (λ b d. cond b (has d (suc k) && isTime (timeFrom q (suc k))) (eqb (timeFrom q (suc k)) 0)) (v .heard-other k l other)
+    (v .destinations)
     ∙ ap (λ x. cond (heardFrom p (suc k)) (has (p .destinations) (suc k) && isTime x) (eqb x 0)) (v .time-other k l other)
     ∙ every-at 8 (λ k. timeRight p (suc k)) e k l))
 
@@ -52,18 +54,22 @@ unfolding heardRight
 stamp-time p e =
     greatest-time (p .times) (p .heard) (λ t. t ≤ lastTime) (omega arith) 8
     (λ k h a. let right = every-at 8 (λ k. timeRight p (suc k)) e k h in
-    let held = sym (ap (λ b. cond b (has (p .destinations) (suc k) && isTime (timeFrom p (suc k))) (eqb (timeFrom p (suc k)) 0)) a) ∙ right in
+    let held = sym (ap (λ b. cond b (has (p .destinations) (suc k) && isTime (timeFrom p (suc k))) (eqb (timeFrom p (suc k)) 0)) a)
+    ∙ right in
     leb-true _ _ (and-right (leb 1 (timeFrom p (suc k))) _ (and-right (has (p .destinations) (suc k)) _ held)))
 
 -- a stamp whose time is below an own time that was heard is below the payment's stamp
-pub below-stamp : (s : Stamp) (p : Payment) (own : ℕ) → s .ledger .0 ≤ 8 → 1 ≤ own → own ≤ 8 → heardFrom p own ≡ true → s .time .0 < timeFrom p own
+pub below-stamp : (s : Stamp) (p : Payment) (own : ℕ) → s .ledger .0 ≤ 8 → 1 ≤ own → own ≤ 8 → heardFrom p own ≡ true
+    → s .time .0 < timeFrom p own
     → below s (stampOf p) ≡ true
 below-stamp s p own hs h g a l =
     let is : own ≡ suc (own - 1) = place own (λ e. omega arith) in
     let top = greatest-above (p .times) (p .heard) 8 (omega arith) (own - 1) (omega arith) (subst (λ n. heardFrom p n ≡ true) is a) in
-    let mine : rank (proposal (p .times) own) ≤ rank (stampOf p) = subst (λ n. rank (proposal (p .times) n) ≤ rank (stampOf p)) (sym is) top in
+    let mine : rank (proposal (p .times) own) ≤ rank (stampOf p) = subst (λ n. rank (proposal (p .times) n) ≤ rank (stampOf p))
+    (sym is) top in
     let few = greatest-ledger (p .times) (p .heard) 8 in
-    below-rank s (stampOf p) (omega arith) (omega arith) ∙ lt-ltb _ _ (le-trans (before (s .time .0) (s .ledger .0) (timeFrom p own) own hs l) mine)
+    below-rank s (stampOf p) (omega arith) (omega arith) ∙ lt-ltb _ _
+    (le-trans (before (s .time .0) (s .ledger .0) (timeFrom p own) own hs l) mine)
   where
     before : (a b c d : ℕ) → b ≤ 8 → a < c → a * 256 + b < c * 256 + d
     before a b c d hb hl = omega arith

@@ -8,17 +8,19 @@ use native.Mathlib.Omega.{arith}
 use lib.ListN.{length, length-set, set}
 use lib.Seq.{getD-set-other, getD-set-same, set-set}
 use borrow.Author.Tests.{eqb-false, eqb-true}
-use Rattle.common.proofs.PlaceLaws.{getD-listed, length-listed}
+use Rattle.common.proofs.PlaceLaws.{by-place, getD-listed, length-listed}
 use Rattle.common.proofs.TestLaws.{split}
 use Rattle.frame.specs.declared.Time.{Time}
-use Rattle.payment.specs.Payments.{allHeard, hear, stampOf}
+use Rattle.payment.specs.Payments.{allHeard, hear, inPhase, posted, stampOf}
 use Rattle.payment.specs.declared.Payment.{Payment}
 use Rattle.held.specs.Held.{at, limit, noPayment, placeOf}
-use Rattle.held.specs.Posting.{afterPosting, isFree, nowPosted}
+use Rattle.posting.specs.Posting.{afterPosting, isFree}
 use Rattle.ledger.specs.Sound.{sound}
-use Rattle.ledger.specs.Refusals.{firstGiven, isHeld, isPropose, judged}
-use Rattle.ledger.specs.Step.{countFor, afterStamping, inPhase, multicastRule, newOwnTime, paymentFor, placeFor, proposeRule, afterHearing, postRule, stampRule, taken}
-use Rattle.ledger.specs.declared.Incoming.{Incoming}
+use Rattle.refusals.specs.Refusals.{firstGiven, isHeld, isPropose}
+use Rattle.ledger.specs.Table.{valueRows}
+use Rattle.ledger.specs.Step.{countFor, afterStamping, multicastRule, newOwnTime, paymentFor, placeFor}
+use Rattle.ledger.specs.Step.{proposeRule, afterHearing, postRule, stampRule, taken}
+use Rattle.refusals.specs.declared.Incoming.{Incoming}
 use Rattle.ledger.specs.declared.Ledger.{Ledger}
 use Rattle.ledger.proofs.JudgeLaws.{count-range, place-range}
 use Rattle.ledger.proofs.SoundLaws.{Almost, clauses, sound-so}
@@ -26,13 +28,14 @@ use Rattle.ledger.proofs.StepLaws.{stamp-not, stamp-now}
 use Rattle.soundness.specs.Shaped.{Shaped}
 use Rattle.soundness.proofs.Accepted.{Accepted, Base, accepted, base}
 use Rattle.soundness.proofs.Bringing.{brings-multicast, brings-propose, own-range}
-use Rattle.soundness.proofs.Replacing.{by-place, replaced, with-payment}
+use Rattle.soundness.proofs.Replacing.{replaced, with-payment}
 use Rattle.soundness.proofs.Settling.{settles}
 use Rattle.soundness.proofs.Taking.{Brings, fits-open, fits-stamped}
 
 -- what the frame's payment becomes by rules 1 and 2, and the clock beside it
 abbrev pub heardPayment : Ledger → Incoming → Payment
-heardPayment l f = cond (isPropose f) (hear (paymentFor l f) (f .source .0) (f .time)) (inPhase 1 (hear (paymentFor l f) (l .own .0) (newOwnTime l)))
+heardPayment l f = cond (isPropose f) (hear (paymentFor l f) (f .source .0) (f .time))
+    (inPhase 1 (hear (paymentFor l f) (l .own .0) (newOwnTime l)))
 
 abbrev pub heardClock : Ledger → Incoming → ℕ
 heardClock l f = cond (isPropose f) (l .clock .0) (l .clock .0 + 1)
@@ -47,7 +50,8 @@ spokenTime l f = cond (isPropose f) (f .time .0) (l .clock .0 + 1)
 abbrev heardPhase : Ledger → Incoming → ℕ
 heardPhase l f = cond (isPropose f) (paymentFor l f .phase) 1
 
-received-form : (l : Ledger) (f : Incoming) → afterHearing l f ≡ with-payment l (countFor l f) (record { 0 = heardClock l f }) (placeFor l f) (heardPayment l f)
+received-form : (l : Ledger) (f : Incoming) → afterHearing l f ≡ with-payment l (countFor l f) (record { 0 = heardClock l f })
+    (placeFor l f) (heardPayment l f)
 unfolding multicastRule proposeRule
 received-form l f = go (isPropose f)
   where
@@ -67,7 +71,8 @@ module _ (l : Ledger) (f : Incoming) (inside : placeFor l f < length (l .payment
   at-place = getD-set-same (l .payments) (placeFor l f) (heardPayment l f) noPayment inside
 
   pub heardOf-stamped : allHeard (heardPayment l f) ≡ true
-      → afterStamping l f ≡ with-payment l (countFor l f) (record { 0 = max (heardClock l f) (stampOf (heardPayment l f) .time .0) }) (placeFor l f) (inPhase 2 (heardPayment l f))
+      → afterStamping l f ≡ with-payment l (countFor l f) (record { 0 = max (heardClock l f) (stampOf (heardPayment l f) .time .0) })
+      (placeFor l f) (inPhase 2 (heardPayment l f))
   heardOf-stamped e =
       ap (λ m. stampRule m (placeFor l f)) (received-form l f)
       ∙ stamp-now received-ledger (placeFor l f) (ap (λ p. p .heard) at-place ∙ eqb-true _ _ e ∙ sym (ap (λ p. p .destinations) at-place))
@@ -89,7 +94,8 @@ module _ (l : Ledger) (f : Incoming) (inside : placeFor l f < length (l .payment
   pub heardOf-open : allHeard (heardPayment l f) ≡ false → afterStamping l f ≡ received-ledger
   heardOf-open e =
       ap (λ m. stampRule m (placeFor l f)) (received-form l f)
-      ∙ stamp-not received-ledger (placeFor l f) (λ z. eqb-false _ _ e (sym (ap (λ p. p .heard) at-place) ∙ z ∙ ap (λ p. p .destinations) at-place))
+      ∙ stamp-not received-ledger (placeFor l f) (λ z. eqb-false _ _ e
+      (sym (ap (λ p. p .heard) at-place) ∙ z ∙ ap (λ p. p .destinations) at-place))
 
 -- the shape is kept by one payment replaced, and by posting
 shaped-with : (l : Ledger) (count : ℕ) (clock : Time) (i : ℕ) (q : Payment) → Shaped l → i < limit → length (q .times) ≡ 8 → q .heard < 256
@@ -104,7 +110,8 @@ shaped-with l count clock i q shape hi size byte =
     each : (A : Payment → Type 0) (j : ℕ) → A q → A (at (l .payments) j) → A (at (set (l .payments) i q) j)
     each A j new old =
         by-place j i
-        (λ e. subst A (sym (ap (at (set (l .payments) i q)) e ∙ getD-set-same (l .payments) i q noPayment (subst (λ n. i < n) (sym (shape .places)) hi))) new)
+        (λ e. subst A (sym (ap (at (set (l .payments) i q)) e
+        ∙ getD-set-same (l .payments) i q noPayment (subst (λ n. i < n) (sym (shape .places)) hi))) new)
         (λ o. subst A (sym (getD-set-other (l .payments) i j q noPayment o)) old)
 
 abbrev pub posted-ledger : Ledger → Ledger
@@ -116,25 +123,30 @@ unfolding afterPosting
 shaped-posted l shape =
     record {
       places = length-listed limit now;
-      times = λ j h. subst (λ p. length (p .times) ≡ 8) (sym (getD-listed limit now j noPayment h)) (each (λ p. length (p .times) ≡ 8) (isFree (l .payments) (l .own .0) j) (at (l .payments) j) (shape .times j h) (shape .times j h));
-      heard = λ j h. subst (λ p. p .heard < 256) (sym (getD-listed limit now j noPayment h)) (each (λ p. p .heard < 256) (isFree (l .payments) (l .own .0) j) (at (l .payments) j) (shape .heard j h) (shape .heard j h));
+      times = λ j h. subst (λ p. length (p .times) ≡ 8) (sym (getD-listed limit now j noPayment h))
+          (each (λ p. length (p .times) ≡ 8) (isFree (l .payments) (l .own .0) j) (at (l .payments) j) (shape .times j h)
+          (shape .times j h));
+      heard = λ j h. subst (λ p. p .heard < 256) (sym (getD-listed limit now j noPayment h))
+          (each (λ p. p .heard < 256) (isFree (l .payments) (l .own .0) j) (at (l .payments) j) (shape .heard j h) (shape .heard j h));
     }
   where
     now : ℕ → Payment
-    now j = cond (isFree (l .payments) (l .own .0) j) (nowPosted (at (l .payments) j)) (at (l .payments) j)
+    now j = cond (isFree (l .payments) (l .own .0) j) (inPhase posted (at (l .payments) j)) (at (l .payments) j)
 
-    each : (A : Payment → Type 0) (b : Bool) (p : Payment) → A (nowPosted p) → A p → A (cond b (nowPosted p) p)
+    each : (A : Payment → Type 0) (b : Bool) (p : Payment) → A (inPhase posted p) → A p → A (cond b (inPhase posted p) p)
     each A true p x y = x
     each A false p x y = y
 
 count-few : (l : Ledger) (f : Incoming) → l .count ≤ limit → placeFor l f < limit → countFor l f ≤ limit
 count-few l f h =
-    split (isHeld l f)
-    (λ t. subst (λ b. cond b (placeOf (l .payments) (f .payment .0)) (l .count) < limit → cond b (l .count) (l .count + 1) ≤ limit) (sym t) (λ p. h))
-    (λ t. subst (λ b. cond b (placeOf (l .payments) (f .payment .0)) (l .count) < limit → cond b (l .count) (l .count + 1) ≤ limit) (sym t) (λ p. omega arith))
+    split (isHeld (l .payments) f)
+    (λ t. subst (λ b. cond b (placeOf (l .payments) (f .payment .0)) (l .count) < limit → cond b (l .count) (l .count + 1) ≤ limit)
+    (sym t) (λ p. h))
+    (λ t. subst (λ b. cond b (placeOf (l .payments) (f .payment .0)) (l .count) < limit → cond b (l .count) (l .count + 1) ≤ limit)
+    (sym t) (λ p. omega arith))
 
 -- a frame that no row refuses
-module _ (l : Ledger) (f : Incoming) (is-sound : sound l ≡ true) (shape : Shaped l) (e : firstGiven (judged l f) ≡ 0) where
+module _ (l : Ledger) (f : Incoming) (is-sound : sound l ≡ true) (shape : Shaped l) (e : firstGiven (valueRows l f) ≡ 0) where
   s : Almost l
   s = clauses l is-sound .kept
 
@@ -153,7 +165,8 @@ module _ (l : Ledger) (f : Incoming) (is-sound : sound l ≡ true) (shape : Shap
   -- what a frame brings that is a PROPOSE, or is not
   abbrev of-kind : Bool → Type 0
   of-kind c =
-      Brings l f (cond c (f .source .0) (l .own .0)) (cond c (f .time .0) (l .clock .0 + 1)) (cond c (paymentFor l f .phase) 1) (cond c (l .clock .0) (l .clock .0 + 1))
+      Brings l f (cond c (f .source .0) (l .own .0)) (cond c (f .time .0) (l .clock .0 + 1)) (cond c (paymentFor l f .phase) 1)
+      (cond c (l .clock .0) (l .clock .0 + 1))
       (cond c (hear (paymentFor l f) (f .source .0) (f .time)) (inPhase 1 (hear (paymentFor l f) (l .own .0) (newOwnTime l))))
 
   -- what the frame brings, whichever kind it is
@@ -171,16 +184,19 @@ module _ (l : Ledger) (f : Incoming) (is-sound : sound l ≡ true) (shape : Shap
       split (allHeard (heardPayment l f))
       (λ t. subst Almost (sym (heardOf-stamped l f inside t))
       (replaced l (countFor l f) _ (placeFor l f) (inPhase 2 (heardPayment l f)) s
-      (fits-stamped l f s shape a b within (own-range l (s .range)) few (speaker l f) (spokenTime l f) (heardPhase l f) (heardClock l f) (heardPayment l f) brings t)))
+      (fits-stamped l f s shape a b within (own-range l (s .range)) few (speaker l f) (spokenTime l f) (heardPhase l f) (heardClock l f)
+      (heardPayment l f) brings t)))
       (λ t. subst Almost (sym (heardOf-open l f inside t))
       (replaced l (countFor l f) _ (placeFor l f) (heardPayment l f) s
-      (fits-open l f s shape a b within (own-range l (s .range)) few (speaker l f) (spokenTime l f) (heardPhase l f) (heardClock l f) (heardPayment l f) brings t)))
+      (fits-open l f s shape a b within (own-range l (s .range)) few (speaker l f) (spokenTime l f) (heardPhase l f) (heardClock l f)
+      (heardPayment l f) brings t)))
 
   pub heard-shaped : Shaped (afterStamping l f)
   heard-shaped =
       split (allHeard (heardPayment l f))
       (λ t. subst Shaped (sym (heardOf-stamped l f inside t))
-      (shaped-with l (countFor l f) _ (placeFor l f) (inPhase 2 (heardPayment l f)) shape within (brings .heard .size) (brings .heard .byte)))
+      (shaped-with l (countFor l f) _ (placeFor l f) (inPhase 2 (heardPayment l f)) shape within (brings .heard .size)
+      (brings .heard .byte)))
       (λ t. subst Shaped (sym (heardOf-open l f inside t))
       (shaped-with l (countFor l f) _ (placeFor l f) (heardPayment l f) shape within (brings .heard .size) (brings .heard .byte)))
 
@@ -189,7 +205,8 @@ module _ (l : Ledger) (f : Incoming) (is-sound : sound l ≡ true) (shape : Shap
   taken-state outgoing list = refl
 
   pub taken-sound : (outgoing list : List ℕ) → sound (taken l f outgoing list .state) ≡ true
-  taken-sound outgoing list = ap sound (taken-state outgoing list) ∙ sound-so (posted-ledger (afterStamping l f)) (settles (afterStamping l f) heard-almost)
+  taken-sound outgoing list = ap sound (taken-state outgoing list)
+      ∙ sound-so (posted-ledger (afterStamping l f)) (settles (afterStamping l f) heard-almost)
 
   pub taken-shaped : (outgoing list : List ℕ) → Shaped (taken l f outgoing list .state)
   taken-shaped outgoing list = subst Shaped (sym (taken-state outgoing list)) (shaped-posted (afterStamping l f) heard-shaped)

@@ -10,7 +10,6 @@ pub mod Settling
 pub mod Kept
 pub mod Steps
 pub mod Fresh
-pub mod Table
-pub mod Rising
 pub mod Postings
 pub mod Taken
+pub mod Named

@@ -9,27 +9,28 @@ use native.Mathlib.Omega.{arith}
 use lib.Dec.{eqb, ltb}
 use borrow.Author.Tests.{eq-eqb, eqb-false, eqb-true, lt-ltb, ltb-false, ltb-true, not-true}
 use Rattle.common.proofs.TestLaws.{split}
-use Rattle.common.specs.Places.{In}
-use Rattle.payment.specs.Ledgers.{has}
+use Rattle.common.specs.Places.{All, In}
+use Rattle.ledgers.specs.Ledgers.{has}
 use Rattle.payment.specs.Payments.{heardFrom, isPosted, stampOf, timeFrom}
-use Rattle.payment.specs.Right.{lawful, phaseRight}
+use Rattle.right.specs.Right.{lawful, phaseRight}
 use Rattle.payment.specs.Stamps.{below}
 use Rattle.payment.specs.declared.Payment.{Payment}
 use Rattle.payment.proofs.GreatestLaws.{greatest-above, greatest-ledger, greatest-none}
 use Rattle.payment.proofs.KeptLaws.{greatest-proposed}
-use Rattle.payment.proofs.LedgerLaws.{place}
-use Rattle.payment.proofs.RightLaws.{later-stamp}
+use Rattle.ledgers.proofs.LedgerLaws.{place}
+use Rattle.right.proofs.RightLaws.{later-stamp}
 use Rattle.payment.proofs.StampLaws.{below-rank, rank}
 use Rattle.held.specs.Held.{at, limit}
-use Rattle.held.specs.Posting.{before, isFree, toPost}
-use Rattle.held.proofs.PostLaws.{free-stamped}
-use Rattle.held.proofs.ReflectLaws.{each-at, unused-at}
+use Rattle.posting.specs.Posting.{before, isFree, toPost}
+use Rattle.posting.proofs.PostLaws.{free-stamped}
+use Rattle.checked.proofs.ReflectLaws.{each-at, unused-at}
 use Rattle.ledger.specs.declared.Ledger.{Ledger}
 use Rattle.soundness.proofs.Apart.{Apart}
 use Rattle.ledger.proofs.SoundLaws.{Almost}
 use Rattle.soundness.proofs.Accepted.{apart-pairs}
 use Rattle.soundness.proofs.Replacing.{unused-phase}
-use Rattle.soundness.proofs.Rising.{All, Rising, sorted-all, sorted-has, sorted-rising}
+use Rattle.common.specs.Order.{Rising}
+use Rattle.common.proofs.RisingLaws.{sorted-all, sorted-has, sorted-rising}
 use Rattle.soundness.proofs.Taking.{own-among}
 
 stamp-small : (p : Payment) → stampOf p .ledger .0 ≤ 8
@@ -42,7 +43,8 @@ below-stamps p q =
     let hq = stamp-small q in
     below-rank (stampOf p) (stampOf q) (omega arith) (omega arith)
 
-pub below-trans : (p q r : Payment) → below (stampOf p) (stampOf q) ≡ true → below (stampOf q) (stampOf r) ≡ true → below (stampOf p) (stampOf r) ≡ true
+pub below-trans : (p q r : Payment) → below (stampOf p) (stampOf q) ≡ true → below (stampOf q) (stampOf r) ≡ true
+    → below (stampOf p) (stampOf r) ≡ true
 below-trans p q r a b =
     let first : rank (stampOf p) < rank (stampOf q) = ltb-true _ _ (sym (below-stamps p q) ∙ a) in
     let second : rank (stampOf q) < rank (stampOf r) = ltb-true _ _ (sym (below-stamps q r) ∙ b) in
@@ -55,7 +57,8 @@ stamp-some p own h g e =
     let top : timeFrom p (suc (own - 1)) * 256 + suc (own - 1) ≤ stampOf p .time .0 * 256 + stampOf p .ledger .0 =
     greatest-above (p .times) (p .heard) 8 (omega arith) (own - 1) (omega arith) (subst (λ n. heardFrom p n ≡ true) is e) in
     split (eqb (stampOf p .ledger .0) 0)
-    (λ t. let none : stampOf p .time .0 * 256 + stampOf p .ledger .0 ≡ 0 = greatest-none (p .times) (p .heard) 8 (eqb-true _ _ t) in absurd (omega arith))
+    (λ t. let none : stampOf p .time .0 * 256 + stampOf p .ledger .0 ≡ 0 = greatest-none (p .times) (p .heard) 8
+    (eqb-true _ _ t) in absurd (omega arith))
     (λ t. let some : stampOf p .ledger .0 ≡ 0 → ⊥ = eqb-false _ _ t in omega arith)
 
 -- two payments that keep no time of one ledger together have different stamps
@@ -79,21 +82,24 @@ module _ (l : Ledger) (s : Almost l) (range : (1 ≤ l .own .0) × (l .own .0 �
   pub stamped-held : (i : ℕ) → i < limit → at (l .payments) i .phase ≡ 2 → i < l .count
   stamped-held i h p =
       split (ltb i (l .count)) (λ t. ltb-true _ _ t)
-      (λ t. let none : at (l .payments) i .phase ≡ 0 = unused-phase (at (l .payments) i) (unused-at (l .payments) (l .count) (s .unused) i h (ltb-false _ _ t)) in
+      (λ t. let none : at (l .payments) i .phase ≡ 0 = unused-phase (at (l .payments) i)
+      (unused-at (l .payments) (l .count) (s .unused) i h (ltb-false _ _ t)) in
       absurd (omega (arith, none, p)))
 
   stamped-own : (i : ℕ) → i < limit → at (l .payments) i .phase ≡ 2 → heardFrom (at (l .payments) i) (l .own .0) ≡ true
   stamped-own i h p =
       let u = stamped-held i h p in
       let all = eqb-true _ _
-      (sym (later-stamp (l .own .0) (at (l .payments) i) (λ z. omega (arith, p, z)) (λ z. omega (arith, p, z)) (ap (λ b. b || isPosted (at (l .payments) i)) (eq-eqb _ _ p)))
+      (sym (later-stamp (l .own .0) (at (l .payments) i) (λ z. omega (arith, p, z)) (λ z. omega (arith, p, z))
+      (ap (λ b. b || isPosted (at (l .payments) i)) (eq-eqb _ _ p)))
       ∙ each-at (l .payments) (l .count) (phaseRight (l .own .0)) (s .phase) i h u) in
       ap (λ d. has d (l .own .0)) all
       ∙ own-among (l .group) (l .own .0) (at (l .payments) i .destinations)
       (not-true _ (each-at (l .payments) (l .count) (lawful (l .group) (l .own .0)) (s .destinations) i h u))
 
   -- two stamped payments are in an order
-  pub free-ordered : (i j : ℕ) → i < limit → j < limit → isFree (l .payments) (l .own .0) i ≡ true → isFree (l .payments) (l .own .0) j ≡ true
+  pub free-ordered : (i j : ℕ) → i < limit → j < limit → isFree (l .payments) (l .own .0) i ≡ true
+      → isFree (l .payments) (l .own .0) j ≡ true
       → (i ≡ j → ⊥) → before (l .payments) i j ≡ false → before (l .payments) j i ≡ true
   free-ordered i j hi hj fi fj o b =
       let pi = free-stamped (l .payments) (l .own .0) i fi in
@@ -103,7 +109,8 @@ module _ (l : Ledger) (s : Almost l) (range : (1 ≤ l .own .0) × (l .own .0 �
       let differ : rank (stampOf (at (l .payments) i)) ≡ rank (stampOf (at (l .payments) j)) → ⊥ =
       stamps-differ (at (l .payments) i) (at (l .payments) j) (l .own .0) (range .0) (range .1) (stamped-own i hi pi) (stamped-own j hj pj)
       (apart-pairs l s i j hi hj (stamped-held i hi pi) (stamped-held j hj pj) o) in
-      below-stamps (at (l .payments) j) (at (l .payments) i) ∙ lt-ltb _ _ (less (rank (stampOf (at (l .payments) j))) (rank (stampOf (at (l .payments) i))) up (λ e. differ (sym e)))
+      below-stamps (at (l .payments) j) (at (l .payments) i)
+      ∙ lt-ltb _ _ (less (rank (stampOf (at (l .payments) j))) (rank (stampOf (at (l .payments) i))) up (λ e. differ (sym e)))
     where
       less : (a b : ℕ) → a ≤ b → (a ≡ b → ⊥) → a < b
       less a b h n = omega arith

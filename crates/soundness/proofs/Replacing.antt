@@ -1,5 +1,6 @@
 -- One payment of a sound ledger replaced, or one added: which clauses of soundness are kept, and from what.
 -- Assumes nothing.
+use Rattle.common.proofs.PlaceLaws.{by-place}
 use Prim.Native.Nat.{ℕ, _<_, _≤_}
 use mathlib.Core.Path.{_≡_, refl, ap, sym, _∙_, subst}
 use mathlib.Core.Bool.{Bool, true, false, not, _&&_}
@@ -7,29 +8,27 @@ use native.Mathlib.Omega.{arith}
 use lib.Dec.{eqb, ltb}
 use lib.ListN.{length, set}
 use lib.Seq.{getD-set-other, getD-set-same}
-use borrow.Author.Tests.{eqb-false, eqb-true, le-leb, le-ltb, ltb-false, ltb-true, ne-eqb, not-true}
+use borrow.Author.Tests.{eqb-true, le-leb, le-ltb, ltb-false, ltb-true, ne-eqb, not-true}
 use Rattle.common.proofs.TestLaws.{and-both, and-left, and-right, both, split}
 use Rattle.frame.specs.declared.Time.{Time}
 use Rattle.payment.specs.Payments.{hasStamp, heardFrom, isPosted, lastTime, stampOf, timeFrom}
-use Rattle.payment.specs.Right.{heardRight, lawful, notAboveClock, numberNotZero, numbersDiffer, timesDiffer, phaseRight, unused}
+use Rattle.right.specs.Right.{heardRight, lawful, notAboveClock, numberNotZero, numbersDiffer, timesDiffer, phaseRight, unused}
 use Rattle.payment.specs.declared.Payment.{Payment}
 use Rattle.held.specs.Held.{at, limit, noPayment}
-use Rattle.held.specs.Checked.{comesAfter, postedBelow, unusedAll}
-use Rattle.held.proofs.ReflectLaws.{each-at, each-so, pairs-at, pairs-so, posted-at, posted-so, unused-at, unused-so}
-use Rattle.ledger.specs.State.{lawfulSetUp}
+use Rattle.checked.specs.Checked.{comesAfter, postedBelow, unusedAll}
+use Rattle.checked.proofs.ReflectLaws.{each-at, each-so, pairs-at, pairs-so, posted-at, posted-so, unused-at, unused-so}
+use Rattle.ledgers.specs.Ledgers.{isLedgerOf}
 use Rattle.ledger.specs.Sound.{each, inRange, pairs}
 use Rattle.ledger.specs.declared.Ledger.{Ledger}
 use Rattle.ledger.proofs.SoundLaws.{Almost}
 
 -- by whether two places are the same
-pub by-place : {A : Type 0} (j i : ℕ) → (j ≡ i → A) → ((j ≡ i → ⊥) → A) → A
-by-place j i f g = split (eqb j i) (λ t. f (eqb-true j i t)) (λ t. g (eqb-false j i t))
-
 -- an unused place is waiting, and so is not posted
 pub unused-phase : (p : Payment) → unused p ≡ true → p .phase ≡ 0
 unfolding unused
 unused-phase p e =
-    eqb-true _ _ (and-left (eqb (p .phase) 0) _ (and-right (eqb (p .heard) 0) _ (and-right (eqb (p .destinations) 0) _ (and-right (eqb (p .number .0) 0) _ e))))
+    eqb-true _ _ (and-left (eqb (p .phase) 0) _ (and-right (eqb (p .heard) 0) _
+    (and-right (eqb (p .destinations) 0) _ (and-right (eqb (p .number .0) 0) _ e))))
 
 unused-unposted : (p : Payment) → unused p ≡ true → isPosted p ≡ false
 unused-unposted p e = let phase = unused-phase p e in ne-eqb (p .phase) 3 (λ q. omega (arith, phase, q))
@@ -138,7 +137,7 @@ module _ (l : Ledger) (count : ℕ) (clock : Time) (i : ℕ) (q : Payment) (s : 
 
   range-kept : inRange (with-payment l count clock i q) ≡ true
   range-kept =
-      and-both (and-left (lawfulSetUp (l .group) (l .own .0)) _ (s .range)) (and-both (le-leb _ _ (w .time)) (le-leb _ _ (w .few)))
+      and-both (and-left (isLedgerOf (l .group) (l .own .0)) _ (s .range)) (and-both (le-leb _ _ (w .time)) (le-leb _ _ (w .few)))
 
   pub replaced : Almost (with-payment l count clock i q)
   replaced =
@@ -146,7 +145,8 @@ module _ (l : Ledger) (count : ℕ) (clock : Time) (i : ℕ) (q : Payment) (s : 
         range = range-kept;
         numbers = pairs-kept numbersDiffer (s .numbers) (w .other-number);
         number = each-kept numberNotZero numberNotZero (s .number) (λ p e. e) (w .number);
-        destinations = each-kept (lawful (l .group) (l .own .0)) (lawful (l .group) (l .own .0)) (s .destinations) (λ p e. e) (w .destinations);
+        destinations = each-kept (lawful (l .group) (l .own .0)) (lawful (l .group) (l .own .0)) (s .destinations) (λ p e. e)
+            (w .destinations);
         heard = each-kept heardRight heardRight (s .heard) (λ p e. e) (w .heard);
         unused = unused-kept;
         times = pairs-kept timesDiffer (s .times) (w .other-times);

@@ -10,19 +10,19 @@ use lib.Dec.{eqb, ltb}
 use borrow.Author.Tests.{eq-eqb, eqb-false, eqb-true, leb-false, leb-true, lt-ltb, not-false, not-true}
 use Rattle.common.proofs.PlaceLaws.{any-none, any-place, getD-listed}
 use Rattle.common.proofs.TestLaws.{and-go, and-left, and-right, split}
-use Rattle.payment.specs.Payments.{heardFrom, isPosted, isProposed, isStamped, stampOf, timeFrom}
-use Rattle.payment.specs.Right.{heardRight, lawful, notAboveClock, numberNotZero, numbersDiffer, timesDiffer, phaseRight, unused}
+use Rattle.payment.specs.Payments.{heardFrom, inPhase, isPosted, isProposed, isStamped, posted, stampOf, timeFrom}
+use Rattle.right.specs.Right.{heardRight, lawful, notAboveClock, numberNotZero, numbersDiffer, timesDiffer, phaseRight, unused}
 use Rattle.payment.specs.declared.Payment.{Payment}
 use Rattle.payment.specs.declared.Stamp.{Stamp}
-use Rattle.payment.proofs.KeptLaws.{otherTimes-proposed}
-use Rattle.payment.proofs.RightLaws.{later-stamp}
+use Rattle.right.proofs.RightLaws.{differ-shared, later-stamp}
 use Rattle.payment.proofs.StampLaws.{below-time}
 use Rattle.held.specs.Held.{at, limit, noPayment}
-use Rattle.held.specs.Posting.{afterPosting, heldBack, holdsBack, isFree, nowPosted}
-use Rattle.held.specs.Checked.{comesAfter, noneFree, postedBelow, unusedAll}
-use Rattle.held.proofs.FreeLaws.{back-proposed, behind-other, behind-proposed, behind-stamped, free-held, free-other}
-use Rattle.held.proofs.PostLaws.{free-stamped}
-use Rattle.held.proofs.ReflectLaws.{each-at, each-so, none-so, pairs-at, pairs-so, posted-at, posted-so, unused-at, unused-so}
+use Rattle.posting.specs.Posting.{afterPosting, heldBack, holdsBack, isFree, noneFree}
+use Rattle.checked.specs.Checked.{comesAfter, postedBelow, unusedAll}
+use Rattle.posting.proofs.FreeLaws.{back-proposed, free-held, free-other, none-so}
+use Rattle.checked.proofs.AfterLaws.{after-other, after-proposed, after-stamped}
+use Rattle.posting.proofs.PostLaws.{free-stamped}
+use Rattle.checked.proofs.ReflectLaws.{each-at, each-so, pairs-at, pairs-so, posted-at, posted-so, unused-at, unused-so}
 use Rattle.ledger.specs.Sound.{each, pairs}
 use Rattle.ledger.specs.declared.Ledger.{Ledger}
 use Rattle.ledger.proofs.SoundLaws.{Almost, Sound}
@@ -34,7 +34,8 @@ module _ (payments : List Payment) (own : ℕ) where
   unfolding isFree
   free-clear i e = not-true _ (and-right (isStamped (at payments i)) _ e)
 
-  pub not-free-held : (i : ℕ) → isFree payments own i ≡ false → at payments i .phase ≡ 2 → heldBack payments own (stampOf (at payments i)) ≡ true
+  pub not-free-held : (i : ℕ) → isFree payments own i ≡ false → at payments i .phase ≡ 2
+      → heldBack payments own (stampOf (at payments i)) ≡ true
   unfolding isFree
   not-free-held i e p = not-false _ (sym (and-go (not (heldBack payments own (stampOf (at payments i)))) (eq-eqb _ _ p)) ∙ e)
 
@@ -45,22 +46,28 @@ holder own s p e = (eqb-true _ _ (and-left (isProposed p) _ e), leb-true _ _ (an
 
 -- posted in place of stamped changes neither numbers, nor destinations, nor times
 otherTimes-posted : (p q : Payment) → timesDiffer p q ≡ true
-    → (timesDiffer (nowPosted p) q ≡ true) × (timesDiffer p (nowPosted q) ≡ true) × (timesDiffer (nowPosted p) (nowPosted q) ≡ true)
+    → (timesDiffer (inPhase posted p) q ≡ true) × (timesDiffer p (inPhase posted q) ≡ true)
+    × (timesDiffer (inPhase posted p) (inPhase posted q) ≡ true)
 otherTimes-posted p q e =
-    let plain = sym (otherTimes-proposed p q) ∙ e in
-    (otherTimes-proposed (nowPosted p) q ∙ plain, otherTimes-proposed p (nowPosted q) ∙ plain, otherTimes-proposed (nowPosted p) (nowPosted q) ∙ plain)
+    let plain = sym (differ-shared p q) ∙ e in (
+      differ-shared (inPhase posted p) q ∙ plain,
+      differ-shared p (inPhase posted q) ∙ plain,
+      differ-shared (inPhase posted p) (inPhase posted q) ∙ plain,
+    )
 
-heardRight-posted : (p : Payment) → heardRight p ≡ true → heardRight (nowPosted p) ≡ true
+heardRight-posted : (p : Payment) → heardRight p ≡ true → heardRight (inPhase posted p) ≡ true
 unfolding heardRight
 heardRight-posted p e = e
 
-notAbove-posted : (own clock : ℕ) (p : Payment) → p .phase ≡ 2 → notAboveClock own clock p ≡ true → notAboveClock own clock (nowPosted p) ≡ true
+notAbove-posted : (own clock : ℕ) (p : Payment) → p .phase ≡ 2 → notAboveClock own clock p ≡ true
+    → notAboveClock own clock (inPhase posted p) ≡ true
 unfolding notAboveClock
-notAbove-posted own clock p h e = subst (λ b. not (heardFrom p own && ltb clock (timeFrom p own)) && not ((b || eqb (p .phase) 3) && ltb clock (stampOf p .time .0)) ≡ true) (eq-eqb _ _ h) e
+notAbove-posted own clock p h e = subst (λ b. not (heardFrom p own && ltb clock (timeFrom p own)) && not
+    ((b || eqb (p .phase) 3) && ltb clock (stampOf p .time .0)) ≡ true) (eq-eqb _ _ h) e
 
-phaseRight-posted : (own : ℕ) (p : Payment) → p .phase ≡ 2 → phaseRight own p ≡ true → phaseRight own (nowPosted p) ≡ true
+phaseRight-posted : (own : ℕ) (p : Payment) → p .phase ≡ 2 → phaseRight own p ≡ true → phaseRight own (inPhase posted p) ≡ true
 phaseRight-posted own p h e =
-    later-stamp own (nowPosted p) (λ z. omega arith) (λ z. omega arith) refl
+    later-stamp own (inPhase posted p) (λ z. omega arith) (λ z. omega arith) refl
     ∙ sym (later-stamp own p (λ z. omega arith) (λ z. omega arith) (ap (λ b. b || isPosted p) (eq-eqb _ _ h)))
     ∙ e
 
@@ -70,22 +77,25 @@ module _ (l : Ledger) (s : Almost l) where
       record { group = l .group; own = l .own; clock = l .clock; count = l .count; payments = afterPosting (l .payments) (l .own .0) }
 
   at-after : (j : ℕ) → j < limit
-      → at (afterPosting (l .payments) (l .own .0)) j ≡ cond (isFree (l .payments) (l .own .0) j) (nowPosted (at (l .payments) j)) (at (l .payments) j)
+      → at (afterPosting (l .payments) (l .own .0)) j ≡ cond (isFree (l .payments) (l .own .0) j) (inPhase posted (at (l .payments) j))
+      (at (l .payments) j)
   unfolding afterPosting
   at-after j h =
-      getD-listed limit (λ j. cond (isFree (l .payments) (l .own .0) j) (nowPosted (at (l .payments) j)) (at (l .payments) j)) j noPayment h
+      getD-listed limit (λ j. cond (isFree (l .payments) (l .own .0) j) (inPhase posted (at (l .payments) j))
+      (at (l .payments) j)) j noPayment h
 
   -- of the payment at each place: posted now, or as it was
   after : (A : Payment → Type 0) (j : ℕ) → j < limit
-      → (isFree (l .payments) (l .own .0) j ≡ true → A (nowPosted (at (l .payments) j)))
+      → (isFree (l .payments) (l .own .0) j ≡ true → A (inPhase posted (at (l .payments) j)))
       → (isFree (l .payments) (l .own .0) j ≡ false → A (at (l .payments) j))
       → A (at (afterPosting (l .payments) (l .own .0)) j)
   after A j h new old =
       split (isFree (l .payments) (l .own .0) j)
-      (λ t. subst A (sym (at-after j h ∙ ap (λ b. cond b (nowPosted (at (l .payments) j)) (at (l .payments) j)) t)) (new t))
-      (λ t. subst A (sym (at-after j h ∙ ap (λ b. cond b (nowPosted (at (l .payments) j)) (at (l .payments) j)) t)) (old t))
+      (λ t. subst A (sym (at-after j h ∙ ap (λ b. cond b (inPhase posted (at (l .payments) j)) (at (l .payments) j)) t)) (new t))
+      (λ t. subst A (sym (at-after j h ∙ ap (λ b. cond b (inPhase posted (at (l .payments) j)) (at (l .payments) j)) t)) (old t))
 
-  each-after : (f : Payment → Bool) → each l f ≡ true → ((p : Payment) → p .phase ≡ 2 → f p ≡ true → f (nowPosted p) ≡ true) → each settled f ≡ true
+  each-after : (f : Payment → Bool) → each l f ≡ true → ((p : Payment) → p .phase ≡ 2 → f p ≡ true → f (inPhase posted p) ≡ true)
+      → each settled f ≡ true
   each-after f e up =
       each-so (afterPosting (l .payments) (l .own .0)) (l .count) f
       (λ j h u. let was = each-at (l .payments) (l .count) f e j h u in
@@ -100,7 +110,7 @@ module _ (l : Ledger) (s : Almost l) where
       let old = pairs-at (l .payments) (l .count) timesDiffer (s .times) j k h u lt in
       let g : k < limit = omega arith in
       after (λ p. timesDiffer p (at (afterPosting (l .payments) (l .own .0)) k) ≡ true) j h
-      (λ t. after (λ q. timesDiffer (nowPosted (at (l .payments) j)) q ≡ true) k g (λ r. was old .2) (λ r. was old .0))
+      (λ t. after (λ q. timesDiffer (inPhase posted (at (l .payments) j)) q ≡ true) k g (λ r. was old .2) (λ r. was old .0))
       (λ t. after (λ q. timesDiffer (at (l .payments) j) q ≡ true) k g (λ r. was old .1) (λ r. old)))
 
   numbers-after : pairs settled numbersDiffer ≡ true
@@ -109,7 +119,7 @@ module _ (l : Ledger) (s : Almost l) where
       (λ j k h u lt. let old = pairs-at (l .payments) (l .count) numbersDiffer (s .numbers) j k h u lt in
       let g : k < limit = omega arith in
       after (λ p. numbersDiffer p (at (afterPosting (l .payments) (l .own .0)) k) ≡ true) j h
-      (λ t. after (λ q. numbersDiffer (nowPosted (at (l .payments) j)) q ≡ true) k g (λ r. old) (λ r. old))
+      (λ t. after (λ q. numbersDiffer (inPhase posted (at (l .payments) j)) q ≡ true) k g (λ r. old) (λ r. old))
       (λ t. after (λ q. numbersDiffer (at (l .payments) j) q ≡ true) k g (λ r. old) (λ r. old)))
 
   -- an unused place is not free
@@ -127,7 +137,8 @@ module _ (l : Ledger) (s : Almost l) where
   proposed-after : (k : ℕ) → k < limit → at (l .payments) k .phase ≡ 1 → at (afterPosting (l .payments) (l .own .0)) k ≡ at (l .payments) k
   proposed-after k h p =
       at-after k h
-      ∙ ap (λ b. cond b (nowPosted (at (l .payments) k)) (at (l .payments) k)) (free-other (l .payments) (l .own .0) k (λ e. omega arith))
+      ∙ ap (λ b. cond b (inPhase posted (at (l .payments) k)) (at (l .payments) k))
+      (free-other (l .payments) (l .own .0) k (λ e. omega arith))
 
   none-after : noneFree (afterPosting (l .payments) (l .own .0)) (l .own .0) ≡ true
   none-after =
@@ -135,19 +146,22 @@ module _ (l : Ledger) (s : Almost l) where
       (λ j h. split (isFree (l .payments) (l .own .0) j)
       (λ t. free-other (afterPosting (l .payments) (l .own .0)) (l .own .0) j
       (λ e. let now : at (afterPosting (l .payments) (l .own .0)) j .phase ≡ 3 =
-      ap (λ p. p .phase) (at-after j h ∙ ap (λ b. cond b (nowPosted (at (l .payments) j)) (at (l .payments) j)) t) in
+      ap (λ p. p .phase) (at-after j h ∙ ap (λ b. cond b (inPhase posted (at (l .payments) j)) (at (l .payments) j)) t) in
       omega (arith, now, e)))
       (λ t. still j h t))
     where
-      same : (j : ℕ) → j < limit → isFree (l .payments) (l .own .0) j ≡ false → at (afterPosting (l .payments) (l .own .0)) j ≡ at (l .payments) j
-      same j h t = at-after j h ∙ ap (λ b. cond b (nowPosted (at (l .payments) j)) (at (l .payments) j)) t
+      same : (j : ℕ) → j < limit → isFree (l .payments) (l .own .0) j ≡ false
+          → at (afterPosting (l .payments) (l .own .0)) j ≡ at (l .payments) j
+      same j h t = at-after j h ∙ ap (λ b. cond b (inPhase posted (at (l .payments) j)) (at (l .payments) j)) t
 
-      still : (j : ℕ) → j < limit → isFree (l .payments) (l .own .0) j ≡ false → isFree (afterPosting (l .payments) (l .own .0)) (l .own .0) j ≡ false
+      still : (j : ℕ) → j < limit → isFree (l .payments) (l .own .0) j ≡ false
+          → isFree (afterPosting (l .payments) (l .own .0)) (l .own .0) j ≡ false
       still j h t =
           split (isStamped (at (l .payments) j))
           (λ p. let (k, g, b) = any-place limit _ (not-free-held (l .payments) (l .own .0) j t (eqb-true _ _ p)) in
           let kept = proposed-after k g (holder (l .own .0) _ (at (l .payments) k) b .0) in
-          free-held (afterPosting (l .payments) (l .own .0)) (l .own .0) j k (stampOf (at (l .payments) j)) (ap stampOf (sym (same j h t))) g
+          free-held (afterPosting (l .payments) (l .own .0)) (l .own .0) j k (stampOf (at (l .payments) j))
+          (ap stampOf (sym (same j h t))) g
           (ap (holdsBack (l .own .0) (stampOf (at (l .payments) j))) kept ∙ b))
           (λ p. free-other (afterPosting (l .payments) (l .own .0)) (l .own .0) j
           (λ e. eqb-false _ _ p (sym (ap (λ x. x .phase) (same j h t)) ∙ e)))
@@ -160,29 +174,33 @@ module _ (l : Ledger) (s : Almost l) where
       (λ p. let stamp = eqb-true _ _ p in
       let (m, h, b) = any-place limit _ (not-free-held (l .payments) (l .own .0) k u stamp) in
       let q = holder (l .own .0) (stampOf (at (l .payments) k)) (at (l .payments) m) b in
-      behind-stamped (l .own .0) (stampOf (at (l .payments) j)) (at (l .payments) k) stamp
+      after-stamped (l .own .0) (stampOf (at (l .payments) j)) (at (l .payments) k) stamp
       ∙ below-time (stampOf (at (l .payments) j)) (stampOf (at (l .payments) k)) (le-trans (clear m h (q .0)) (q .1)))
       (λ p. split (isProposed (at (l .payments) k))
       (λ r. let prop = eqb-true _ _ r in
-      behind-proposed (l .own .0) (stampOf (at (l .payments) j)) (at (l .payments) k) prop ∙ lt-ltb _ _ (clear k g prop))
-      (λ r. behind-other (l .own .0) (stampOf (at (l .payments) j)) (at (l .payments) k) (eqb-false _ _ p) (eqb-false _ _ r)))
+      after-proposed (l .own .0) (stampOf (at (l .payments) j)) (at (l .payments) k) prop ∙ lt-ltb _ _ (clear k g prop))
+      (λ r. after-other (l .own .0) (stampOf (at (l .payments) j)) (at (l .payments) k) (eqb-false _ _ p) (eqb-false _ _ r)))
     where
-      clear : (m : ℕ) → m < limit → at (l .payments) m .phase ≡ 1 → stampOf (at (l .payments) j) .time .0 < timeFrom (at (l .payments) m) (l .own .0)
+      clear : (m : ℕ) → m < limit → at (l .payments) m .phase ≡ 1
+          → stampOf (at (l .payments) j) .time .0 < timeFrom (at (l .payments) m) (l .own .0)
       clear m h e =
           leb-false _ _
           (sym (back-proposed (l .own .0) (stampOf (at (l .payments) j)) (at (l .payments) m) e)
-          ∙ any-none limit (λ k. holdsBack (l .own .0) (stampOf (at (l .payments) j)) (at (l .payments) k)) (free-clear (l .payments) (l .own .0) j t) m h)
+          ∙ any-none limit (λ k. holdsBack (l .own .0) (stampOf (at (l .payments) j)) (at (l .payments) k))
+          (free-clear (l .payments) (l .own .0) j t) m h)
 
   posted-after : postedBelow (afterPosting (l .payments) (l .own .0)) (l .own .0) ≡ true
   posted-after =
       posted-so (afterPosting (l .payments) (l .own .0)) (l .own .0)
-      (λ j k h g. after (λ p. isPosted p ≡ true → comesAfter (l .own .0) (stampOf p) (at (afterPosting (l .payments) (l .own .0)) k) ≡ true) j h
+      (λ j k h g. after (λ p. isPosted p ≡ true → comesAfter (l .own .0) (stampOf p)
+      (at (afterPosting (l .payments) (l .own .0)) k) ≡ true) j h
       (λ t e. after (λ q. comesAfter (l .own .0) (stampOf (at (l .payments) j)) q ≡ true) k g (λ u. past j k) (λ u. free-behind j k g t u))
       (λ t e. after (λ q. comesAfter (l .own .0) (stampOf (at (l .payments) j)) q ≡ true) k g (λ u. past j k)
       (λ u. posted-at (l .payments) (l .own .0) (s .posted) j k h g e)))
     where
-      past : (j k : ℕ) → comesAfter (l .own .0) (stampOf (at (l .payments) j)) (nowPosted (at (l .payments) k)) ≡ true
-      past j k = behind-other (l .own .0) (stampOf (at (l .payments) j)) (nowPosted (at (l .payments) k)) (λ e. omega arith) (λ e. omega arith)
+      past : (j k : ℕ) → comesAfter (l .own .0) (stampOf (at (l .payments) j)) (inPhase posted (at (l .payments) k)) ≡ true
+      past j k = after-other (l .own .0) (stampOf (at (l .payments) j)) (inPhase posted (at (l .payments) k)) (λ e. omega arith)
+          (λ e. omega arith)
 
   pub settles : Sound settled
   settles =

@@ -13,11 +13,12 @@ use Rattle.frame.specs.Digits.{sum}
 use Rattle.frame.specs.Frames.{body, frameValues, notAFrame}
 use Rattle.held.specs.Held.{limit}
 use Rattle.ledger.specs.Sound.{sound}
-use Rattle.ledger.specs.Refusals.{answerTo, firstGiven, incoming, judged, refusals}
+use Rattle.ledger.specs.Table.{answerTo, valueRows, refusals}
+use Rattle.refusals.specs.Refusals.{firstGiven, incoming}
 use Rattle.ledger.specs.Step.{refused, step, taken}
 use Rattle.ledger.specs.declared.Ledger.{Ledger}
 use Rattle.ledger.proofs.JudgeLaws.{by-answer, by-zero}
-use Rattle.ledger.proofs.RefusalLaws.{allNumbered, none-given, pass}
+use Rattle.refusals.proofs.TableLaws.{allNumbered, none-given, pass}
 use Rattle.soundness.specs.Shaped.{Shaped}
 use Rattle.soundness.proofs.Kept.{taken-shaped, taken-sound}
 
@@ -27,7 +28,7 @@ pub record Taken (l : Ledger) (frame outgoing list : List ℕ) : Type 0 where
   pub outgoing-fits : 9 ≤ length outgoing
   pub list-fits : limit ≤ length list
   pub is-frame : notAFrame frame ≡ false
-  pub unrefused : firstGiven (judged l (incoming (frameValues frame))) ≡ 0
+  pub unrefused : firstGiven (valueRows l (incoming (frameValues frame))) ≡ 0
   pub so : step l frame outgoing list ≡ taken l (incoming (frameValues frame)) outgoing list
 
 module _ (l : Ledger) (frame outgoing list : List ℕ) where
@@ -45,13 +46,17 @@ module _ (l : Ledger) (frame outgoing list : List ℕ) where
         is-frame = r₃;
         unrefused =
             sym (pass 2 (refusals l frame outgoing list) (omega arith)
-            (pass 1 (refusals l frame outgoing list) (omega arith) (pass 0 (refusals l frame outgoing list) (omega arith) refl r₁) r₂) r₃) ∙ e;
-        so = by-zero (answerTo l frame outgoing list) (taken l (incoming (frameValues frame)) outgoing list) (refused l (answerTo l frame outgoing list) outgoing list) e;
+            (pass 1 (refusals l frame outgoing list) (omega arith)
+            (pass 0 (refusals l frame outgoing list) (omega arith) refl r₁) r₂) r₃) ∙ e;
+        so = by-zero (answerTo l frame outgoing list) (taken l (incoming (frameValues frame)) outgoing list)
+            (refused l (answerTo l frame outgoing list) outgoing list) e;
       }
 
-  pub is-refused : (answerTo l frame outgoing list ≡ 0 → ⊥) → step l frame outgoing list ≡ refused l (answerTo l frame outgoing list) outgoing list
+  pub is-refused : (answerTo l frame outgoing list ≡ 0 → ⊥) → step l frame outgoing list ≡ refused l
+      (answerTo l frame outgoing list) outgoing list
   unfolding step
-  is-refused n = by-answer (answerTo l frame outgoing list) (taken l (incoming (frameValues frame)) outgoing list) (refused l (answerTo l frame outgoing list) outgoing list) n
+  is-refused n = by-answer (answerTo l frame outgoing list) (taken l (incoming (frameValues frame)) outgoing list)
+      (refused l (answerTo l frame outgoing list) outgoing list) n
 
   -- the answer that is handed back is the table's
   pub answer-is : step l frame outgoing list .answer ≡ answerTo l frame outgoing list
@@ -60,7 +65,7 @@ module _ (l : Ledger) (frame outgoing list : List ℕ) where
       (λ t. let e = eqb-true _ _ t in ap (λ o. o .answer) (is-taken e .so) ∙ sym e)
       (λ t. ap (λ o. o .answer) (is-refused (eqb-false _ _ t)))
 
-  -- a taken step on a sound state gives a sound state; a refusal or repeat leaves it as it was
+  -- a taken step on a sound state gives a sound state; a refusal or repeat (leaves .payments) it as it was
   pub step-sound : Shaped l → sound l ≡ true → sound (step l frame outgoing list .state) ≡ true
   step-sound shape s =
       split (eqb (answerTo l frame outgoing list) 0)

@@ -8,19 +8,20 @@ use native.Mathlib.Nat.{le-max-left, le-max-right, le-trans}
 use native.Mathlib.Omega.{arith}
 use lib.Dec.{eqb, leb, ltb}
 use borrow.Author.Tests.{eqb-true, le-ltb, lt-ltb, ne-eqb, not-false}
+use Rattle.ledgers.proofs.LedgerLaws.{has-empty}
 use Rattle.common.proofs.TestLaws.{and-both, both, or-right, split}
-use Rattle.payment.specs.Ledgers.{has}
-use Rattle.payment.specs.Payments.{allHeard, hasStamp, heardFrom, isPosted, isTime, lastTime, stampOf, timeFrom, unlawful}
-use Rattle.payment.specs.Right.{heardRight, lawful, notAboveClock, numberNotZero, numbersDiffer, timesDiffer}
+use Rattle.ledgers.specs.Ledgers.{has, unlawful}
+use Rattle.payment.specs.Payments.{allHeard, hasStamp, heardFrom, inPhase, isPosted, isTime, lastTime, stampOf, timeFrom}
+use Rattle.right.specs.Right.{heardRight, lawful, notAboveClock, numberNotZero, numbersDiffer, timesDiffer}
 use Rattle.payment.specs.declared.Payment.{Payment}
 use Rattle.payment.proofs.GreatestLaws.{greatest-ledger}
 use Rattle.payment.proofs.HearLaws.{Hears}
-use Rattle.payment.proofs.RightLaws.{has-empty, later-stamp, proposed-own, waiting-others}
+use Rattle.right.proofs.RightLaws.{later-stamp, proposed-own, waiting-others}
 use Rattle.held.specs.Held.{at, limit, placeOf}
-use Rattle.held.proofs.FreeLaws.{behind-other, behind-proposed, behind-stamped}
-use Rattle.ledger.specs.Refusals.{isHeld}
-use Rattle.ledger.specs.Step.{countFor, inPhase, paymentFor, placeFor}
-use Rattle.ledger.specs.declared.Incoming.{Incoming}
+use Rattle.checked.proofs.AfterLaws.{after-other, after-proposed, after-stamped}
+use Rattle.refusals.specs.Refusals.{isHeld}
+use Rattle.ledger.specs.Step.{countFor, paymentFor, placeFor}
+use Rattle.refusals.specs.declared.Incoming.{Incoming}
 use Rattle.ledger.specs.declared.Ledger.{Ledger}
 use Rattle.ledger.proofs.SoundLaws.{Almost}
 use Rattle.soundness.specs.Shaped.{Shaped}
@@ -35,7 +36,8 @@ pub record Brings (l : Ledger) (f : Incoming) (w t phase clock : ℕ) (q : Payme
   pub phase-is : q .phase ≡ phase
   pub destination : has (f .destinations) w ≡ true
   pub time : isTime t ≡ true
-  pub fresh : (j : ℕ) → j < limit → j < l .count → (j ≡ placeFor l f → ⊥) → heardFrom (at (l .payments) j) w ≡ true → timeFrom (at (l .payments) j) w ≡ t → ⊥
+  pub fresh : (j : ℕ) → j < limit → j < l .count → (j ≡ placeFor l f → ⊥) → heardFrom (at (l .payments) j) w ≡ true
+      → timeFrom (at (l .payments) j) w ≡ t → ⊥
   pub so-far : ((phase ≡ 0) × (heardFrom q (l .own .0) ≡ false)) ⊎ ((phase ≡ 1) × (heardFrom q (l .own .0) ≡ true))
   pub own-time : heardFrom q (l .own .0) ≡ true → timeFrom q (l .own .0) ≤ clock
   pub own-late : heardFrom q (l .own .0) ≡ true → (j : ℕ) → j < limit → isPosted (at (l .payments) j) ≡ true
@@ -54,7 +56,8 @@ right-phase : (phase : ℕ) (p : Payment) → heardRight p ≡ true → heardRig
 unfolding heardRight
 right-phase phase p e = e
 
-not-above-so : (p : Payment) (own clock : ℕ) → (heardFrom p own ≡ true → timeFrom p own ≤ clock) → (hasStamp p ≡ true → stampOf p .time .0 ≤ clock)
+not-above-so : (p : Payment) (own clock : ℕ) → (heardFrom p own ≡ true → timeFrom p own ≤ clock)
+    → (hasStamp p ≡ true → stampOf p .time .0 ≤ clock)
     → notAboveClock own clock p ≡ true
 unfolding notAboveClock
 not-above-so p own clock f g = and-both (side (heardFrom p own) (timeFrom p own) f) (side (hasStamp p) (stampOf p .time .0) g)
@@ -67,19 +70,22 @@ not-above-so p own clock f g = and-both (side (heardFrom p own) (timeFrom p own)
 module _ (l : Ledger) (s : Almost l) (shape : Shaped l) (f : Incoming) (a : Accepted l f) where
   pub place-inside : placeFor l f < countFor l f
   place-inside =
-      split (isHeld l f)
-      (λ h. subst (λ c. cond c (placeOf (l .payments) (f .payment .0)) (l .count) < cond c (l .count) (l .count + 1)) (sym h) (place-used l s shape f a h))
+      split (isHeld (l .payments) f)
+      (λ h. subst (λ c. cond c (placeOf (l .payments) (f .payment .0)) (l .count) < cond c (l .count) (l .count + 1)) (sym h)
+      (place-used l s shape f a h))
       (λ h. subst (λ c. cond c (placeOf (l .payments) (f .payment .0)) (l .count) < cond c (l .count) (l .count + 1)) (sym h) (omega arith))
 
   pub place-others : (j : ℕ) → j < countFor l f → (j ≡ placeFor l f → ⊥) → j < l .count
   place-others j =
-      split (isHeld l f)
-      (λ h. subst (λ c. j < cond c (l .count) (l .count + 1) → (j ≡ cond c (placeOf (l .payments) (f .payment .0)) (l .count) → ⊥) → j < l .count) (sym h) (λ u o. u))
-      (λ h. subst (λ c. j < cond c (l .count) (l .count + 1) → (j ≡ cond c (placeOf (l .payments) (f .payment .0)) (l .count) → ⊥) → j < l .count) (sym h) (λ u o. omega arith))
+      split (isHeld (l .payments) f)
+      (λ h. subst (λ c. j < cond c (l .count) (l .count + 1) → (j ≡ cond c (placeOf (l .payments) (f .payment .0)) (l .count) → ⊥)
+      → j < l .count) (sym h) (λ u o. u))
+      (λ h. subst (λ c. j < cond c (l .count) (l .count + 1) → (j ≡ cond c (placeOf (l .payments) (f .payment .0)) (l .count) → ⊥)
+      → j < l .count) (sym h) (λ u o. omega arith))
 
 pub place-grown : (l : Ledger) (f : Incoming) → l .count ≤ countFor l f
 place-grown l f =
-    split (isHeld l f)
+    split (isHeld (l .payments) f)
     (λ h. subst (λ c. l .count ≤ cond c (l .count) (l .count + 1)) (sym h) (omega arith))
     (λ h. subst (λ c. l .count ≤ cond c (l .count) (l .count + 1)) (sym h) (omega arith))
 
@@ -156,8 +162,9 @@ module _ (l : Ledger) (f : Incoming) (s : Almost l) (shape : Shaped l) (a : Acce
         other-number = other-number-now (inPhase 2 q) refl refl;
         other-times = other-times-now (inPhase 2 q) refl refl (λ j x. x);
         behind-posted = λ j h u o p.
-            behind-stamped (l .own .0) (stampOf (at (l .payments) j)) (inPhase 2 q) refl
-            ∙ below-stamp (stampOf (at (l .payments) j)) q (l .own .0) (stamp-ledger j) (group .0) (group .1) (all-own e) (n .own-late (all-own e) j h p);
+            after-stamped (l .own .0) (stampOf (at (l .payments) j)) (inPhase 2 q) refl
+            ∙ below-stamp (stampOf (at (l .payments) j)) q (l .own .0) (stamp-ledger j) (group .0) (group .1) (all-own e)
+            (n .own-late (all-own e) j h p);
       }
 
   pub fits-open : allHeard q ≡ false → Fits l (countFor l f) (record { 0 = clock }) (placeFor l f) q
@@ -185,8 +192,9 @@ module _ (l : Ledger) (f : Incoming) (s : Almost l) (shape : Shaped l) (a : Acce
         other-times = other-times-now q refl refl (λ j x. x);
         behind-posted = λ j h u o p.
             ⊎-elim
-            (λ x. behind-other (l .own .0) (stampOf (at (l .payments) j)) q (λ z. two (sym (n .phase-is ∙ x .0) ∙ z)) (λ z. one (sym (n .phase-is ∙ x .0) ∙ z)))
-            (λ x. behind-proposed (l .own .0) (stampOf (at (l .payments) j)) q (n .phase-is ∙ x .0) ∙ lt-ltb _ _ (n .own-late (x .1) j h p))
+            (λ x. after-other (l .own .0) (stampOf (at (l .payments) j)) q (λ z. two (sym (n .phase-is ∙ x .0) ∙ z))
+            (λ z. one (sym (n .phase-is ∙ x .0) ∙ z)))
+            (λ x. after-proposed (l .own .0) (stampOf (at (l .payments) j)) q (n .phase-is ∙ x .0) ∙ lt-ltb _ _ (n .own-late (x .1) j h p))
             (n .so-far);
       }
     where

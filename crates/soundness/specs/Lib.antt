@@ -1,3 +1,4 @@
 -- What the theorems of soundness speak of.
 -- Assumes nothing.
 pub mod Shaped
+pub mod Taken

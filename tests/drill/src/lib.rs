@@ -31,10 +31,14 @@ pub fn examples() -> Vec<(String, Vec<u8>, String)> {
     found.iter().map(|path| (path.file_stem().unwrap().to_string_lossy().into_owned(), bytes(&read(path)), read(&path.with_extension("out")))).collect()
 }
 
+/// The built drill.
+pub fn drill() -> Command {
+    Command::new(home().join("../../target/bin/drill"))
+}
+
 /// Starts the drill with pipes.
 pub fn start() -> Child {
-    let program = home().join("../../target/bin/drill");
-    Command::new(program).stdin(Stdio::piped()).stdout(Stdio::piped()).stderr(Stdio::piped()).spawn().expect("the drill is built: rt check drill")
+    drill().stdin(Stdio::piped()).stdout(Stdio::piped()).stderr(Stdio::piped()).spawn().expect("the drill is built: rt check drill")
 }
 
 /// Runs the drill on pieces of input, each written by itself, and gives what came of it.

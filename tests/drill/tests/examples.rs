@@ -1,4 +1,5 @@
-use drill::{bytes, examples, printed, start};
+use drill::{bytes, drill, examples, printed, start};
+use std::fs::File;
 use std::io::{BufRead, BufReader, Read, Write};
 
 #[test]
@@ -64,4 +65,13 @@ fn a_closed_output_ends_the_run_quietly() {
     child.stderr.take().unwrap().read_to_string(&mut said).unwrap();
     child.wait().unwrap();
     assert_eq!(said, "");
+}
+
+#[test]
+fn an_input_that_cannot_be_read_has_no_last_line() {
+    // A directory can be opened, and no byte of it can be read.
+    let directory = File::open(env!("CARGO_MANIFEST_DIR")).unwrap();
+    let output = drill().stdin(directory).output().unwrap();
+    assert_eq!(String::from_utf8(output.stdout).unwrap(), "");
+    assert_eq!(String::from_utf8(output.stderr).unwrap(), "drill: the input cannot be read\n");
 }

@@ -1,29 +1,79 @@
-use promises::{cited, holds, root};
+use promises::{cited, cited_anywhere, edits, holds, listed, missing, newest};
+use promises::{not_public, public_functions, public_in_programs, root, uncited, unlisted};
+use std::collections::BTreeSet;
 use std::fs;
+use std::path::{Path, PathBuf};
 
-fn missing(list: &str) -> Vec<String> {
-    let text = fs::read_to_string(root().join(list)).expect("the list is there");
-    cited(&text).into_iter().filter(|name| holds(&root(), name) == Some(false)).collect()
+const NONE: Vec<String> = Vec::new();
+
+fn list(name: &str) -> String {
+    fs::read_to_string(root().join(name)).expect("the list is there")
+}
+
+/// A made-up repository with these files.
+fn made_up(name: &str, files: &[(&str, &str)]) -> PathBuf {
+    let home = Path::new(env!("CARGO_TARGET_TMPDIR")).join(name);
+    let _ = fs::remove_dir_all(&home);
+    for (path, text) in files {
+        let file = home.join(path);
+        fs::create_dir_all(file.parent().unwrap()).unwrap();
+        fs::write(file, text).unwrap();
+    }
+    home
+}
+
+fn set(names: &[&str]) -> BTreeSet<String> {
+    names.iter().map(|name| name.to_string()).collect()
 }
 
 #[test]
 fn every_name_in_promises_is_in_the_tree() {
-    assert_eq!(missing("docs/PROMISES.md"), Vec::<String>::new());
+    assert_eq!(missing(&root(), cited(&list("docs/PROMISES.md"))), NONE);
 }
 
 #[test]
 fn every_name_in_unpinned_is_in_the_tree() {
-    assert_eq!(missing("docs/UNPINNED.md"), Vec::<String>::new());
+    assert_eq!(missing(&root(), cited_anywhere(&list("docs/UNPINNED.md"))), NONE);
 }
 
 #[test]
 fn every_name_in_sources_is_in_the_tree() {
-    assert_eq!(missing("docs/SOURCES.md"), Vec::<String>::new());
+    assert_eq!(missing(&root(), cited_anywhere(&list("docs/SOURCES.md"))), NONE);
+}
+
+#[test]
+fn every_name_in_decisions_is_in_the_tree() {
+    assert_eq!(missing(&root(), cited_anywhere(&list("docs/DECISIONS.md"))), NONE);
+}
+
+#[test]
+fn every_name_in_the_newest_changes_is_in_the_tree() {
+    assert_eq!(missing(&root(), cited_anywhere(newest(&list("docs/CHANGES.md")))), NONE);
+}
+
+#[test]
+fn every_public_function_is_listed_in_unpinned() {
+    assert_eq!(unlisted(&root(), &list("docs/UNPINNED.md")), NONE);
+}
+
+#[test]
+fn every_function_listed_in_unpinned_is_public() {
+    assert_eq!(not_public(&root(), &list("docs/UNPINNED.md")), NONE);
+}
+
+#[test]
+fn no_program_has_a_public_function() {
+    assert_eq!(public_in_programs(&root()), set(&[]));
+}
+
+#[test]
+fn every_edit_is_cited_in_promises() {
+    assert_eq!(uncited(&root(), &list("docs/PROMISES.md")), NONE);
 }
 
 #[test]
 fn every_row_of_promises_says_what_holds_it() {
-    let text = fs::read_to_string(root().join("docs/PROMISES.md")).unwrap();
+    let text = list("docs/PROMISES.md");
     let rows: Vec<&str> = text.lines().filter(|l| l.starts_with("| ") && !l.starts_with("| sentence")).collect();
     assert!(rows.len() > 100);
     for row in rows {
@@ -38,6 +88,87 @@ fn a_name_that_is_not_there_is_found_out() {
     assert_eq!(holds(&root(), "frame/Frames.readin"), Some(false));
     assert_eq!(holds(&root(), "frame::read"), Some(true));
     assert_eq!(holds(&root(), "frame::rea"), Some(false));
+    assert_eq!(holds(&root(), "drill::refill"), Some(true));
     assert_eq!(holds(&root(), "frame/must-fail/no_such_edit"), Some(false));
+    assert_eq!(holds(&root(), "no_such_crate/Frames.reading"), Some(false));
+    assert_eq!(holds(&root(), "no_such_crate::read"), Some(false));
     assert_eq!(holds(&root(), "GROUP"), None);
+}
+
+#[test]
+fn the_path_of_a_file_is_no_name() {
+    for path in ["docs/RULES.md", "crates/frame/specs/Frames.antt", "crates/*/must-fail/", "tests/orders", "README.md"] {
+        assert_eq!(holds(&root(), path), None, "{path}");
+    }
+}
+
+#[test]
+fn a_name_in_prose_that_is_not_there_is_found_out() {
+    let text = "# Why
+
+As `frame::read` and
+`frame::no_such` do (`docs/RULES.md`), `r ≡ ..`.
+
+A stray ` mark.
+
+By `frame/Frames.no-such`.
+| a | `frame/must-fail/no_such_edit` |
+
+```
+let x = `frame::in_code`;
+```
+
+Last, `frame/RoundTrip.totals` and `frame::last`.
+";
+    assert_eq!(
+        missing(&root(), cited_anywhere(text)),
+        ["frame::no_such", "frame/Frames.no-such", "frame/must-fail/no_such_edit", "frame::last"]
+    );
+}
+
+#[test]
+fn only_the_newest_part_of_history_is_held_to_the_tree() {
+    let text = "# Changes\n\n## Before\n\nNew: `frame::gone`.\n\n## Now\n\n### More\n\nNew: `frame::no_such` and `frame::read`.\n";
+    assert_eq!(missing(&root(), cited_anywhere(newest(text))), ["frame::no_such"]);
+    assert_eq!(missing(&root(), cited_anywhere(newest("New: `frame::no_such`.\n"))), ["frame::no_such"]);
+}
+
+#[test]
+fn a_public_function_that_is_not_listed_is_found_out() {
+    let tree = made_up(
+        "functions",
+        &[
+            ("crates/a/src/lib.rt", "pub fn one() {}\nfn two() {}\npub(crate) fn three() {}\n// pub fn four\npub struct Five(pub u8);\n"),
+            ("crates/a/src/deep/more.rt", "impl Six {\n    pub fn seven(self) -> u8\n}\n"),
+            ("crates/b/src/lib.rt", ""),
+            ("crates/c/src/main.rt", "fn main() {}\npub(crate) fn eight() {}\n"),
+            ("crates/c/src/calls.rt", "pub fn nine(\n    n: u8,\n) {}\n"),
+        ],
+    );
+    assert_eq!(public_functions(&tree), set(&["a::one", "a::seven"]));
+    assert_eq!(public_in_programs(&tree), set(&["c::nine"]));
+    let text = "| public function | promise |\n|---|---|\n| `a::one`, `a::two` | `a::seven` |\n";
+    assert_eq!(unlisted(&tree, text), ["a::seven"]);
+    assert_eq!(not_public(&tree, text), ["a::two"]);
+}
+
+#[test]
+fn a_function_counts_as_listed_in_the_first_cell_only() {
+    let text = "Beside `a::prose`.\n\n| public function | promise |\n|---|---|\n| `a::one`, `a::two` | `a::three` |\n";
+    assert_eq!(listed(text), set(&["a::one", "a::two"]));
+}
+
+#[test]
+fn an_edit_that_no_row_cites_is_found_out() {
+    let tree = made_up(
+        "edits",
+        &[
+            ("crates/a/must-fail/one.edit", ""),
+            ("crates/a/must-fail/two.edit", ""),
+            ("crates/b/must-fail/one.edit", ""),
+            ("crates/b/src/lib.rt", ""),
+        ],
+    );
+    assert_eq!(edits(&tree), set(&["a/must-fail/one", "a/must-fail/two", "b/must-fail/one"]));
+    assert_eq!(uncited(&tree, "`a/must-fail/two`\n\n| sentence | `a/must-fail/one` |\n"), ["a/must-fail/two", "b/must-fail/one"]);
 }

@@ -1,8 +1,7 @@
 use Prim.Native.Nat.{_≤_, _-_}
-use mathlib.Core.Path.{_≡_, sym}
+use mathlib.Core.Path.{_≡_}
 use native.Mathlib.Omega.{arith}
 use lib.ListN.{drop, length, length-take}
-use lib.Seq.{length-take-le}
 use borrow.Author.Needs.{needs}
 use Rattle.drill.proofs.run.Statement.{statement}
 use Rattle.drill.proofs.run.Tie as tie
@@ -14,14 +13,13 @@ Inv-loop input₀ out₀ day₀ hand₀ turns₀ input out day hand turns =
 abbrev μ-loop : tie.MeasureT-loop
 μ-loop input₀ out₀ day₀ hand₀ turns₀ input out day hand turns = turns
 
-slice-aggregate-write-all : tie.Need-slice-aggregate-write-all Inv-loop μ-loop
-slice-aggregate-write-all c = sym (length-take-le _ _ (omega arith))
-
 add-from : tie.Need-add-from Inv-loop μ-loop
 add-from c =
-    let head = c .before .before .before .before .before .before .before .before .before .before .before .before .before .loop in
+    let c₄ = c .before .before .before .before in
+    let c₉ = c₄ .before .before .before .before .before in
+    let head = c₉ .loop in
     let part = length-take (head .hand .filled - head .hand .at) (drop (head .hand .at) (head .input)) in
-    omega (arith, c .before .before .before .before .before .before .before .before .read-all .ensures .0 .0, head .inv .0, head .inv .1, c .before .before .before .before .before .before .before .before .before .before .before .before .before .before .before .before .before .before .good .0 .0)
+    omega (arith, c₄ .print-all .ensures, head .inv .0, head .inv .1, c₉ .before .before .before .before .before .good .0 .0)
 
 pub run-spec : {M : Type 1} → statement M
 run-spec =
@@ -37,24 +35,16 @@ run-spec =
     (λ c. search needs)
     (λ c. search needs)
     (λ c κs. search needs)
-    (λ c. search needs)
-    slice-aggregate-write-all
-    (λ c κs. search needs)
-    (λ c. search needs)
-    (λ c. search needs)
-    (λ c. search needs)
     add-from
     (λ c. search needs)
     (λ c. search needs)
     (λ c. search needs)
     (λ c κs. search needs)
-    (λ c κs. search needs)
     (λ c. search needs)
     (λ c. search needs)
     (λ c. search needs)
     (λ c κs. search needs)
-    (λ c. search needs)
-    (λ c. search needs)
+    (λ c κs. search needs)
     (λ c. search needs)
     (λ c. search needs)
     (λ c. search needs)

@@ -35,17 +35,20 @@ cast-value c = omega (arith, c .shared-slice-known .given (c .before .before .lo
 
 add-value : tie.Need-add-value Inv-loop μ-loop
 add-value c =
-    let small = below-three (c .before .before .loop .i) (omega arith) in
-    omega (arith, c .shared-slice-known .given (c .before .before .loop .i))
+    let loop = c .before .before .loop in
+    let small = below-three (loop .i) (omega arith) in
+    omega (arith, c .shared-slice-known .given (loop .i))
 
 loop-again : tie.Need-loop-again Inv-loop μ-loop
 loop-again c =
+    let args = c .before .before .before .args in
     let head = c .before .before .loop in
     let byte = c .shared-slice-known .given (head .i) in (
       search needs,
       refl,
       rw (add-one, pow-suc) (digits-lt (head .inv .2) (omega arith)),
-      rw (add-one, take-suc {A = ℕ} (now (c .before .before .before .args .part)) (head .i) 0 (omega arith)) (ap₂ (λ n m. n * 256 + m) (head .inv .3) refl ∙ sym (numberOf-snoc _ _)),
+      rw (add-one, take-suc {A = ℕ} (now (args .part)) (head .i) 0 (omega arith))
+          (ap₂ (λ n m. n * 256 + m) (head .inv .3) refl ∙ sym (numberOf-snoc _ _)),
     )
 
 returns : tie.Need-returns Inv-loop μ-loop

@@ -47,9 +47,11 @@ loop-again c =
     let more : width - (head .i - 1) ≡ suc (width - head .i) = omega arith in
     let next : args .at + head .i ≡ suc (args .at + (head .i - 1)) = omega arith in (
       omega arith,
-      rw more (ap (λ x. x / 256) (head .inv .1) ∙ div-div-eq-div-mul value (256 ^ (width - head .i)) 256 ∙ ap (λ x. value / x) (sym (pow-suc 256 _))),
+      rw more (ap (λ x. x / 256) (head .inv .1) ∙ div-div-eq-div-mul value (256 ^ (width - head .i)) 256
+          ∙ ap (λ x. value / x) (sym (pow-suc 256 _))),
       rw more
-          (ap (λ l. set l (args .at + (head .i - 1)) (head .left % 256)) (head .inv .2 ∙ ap (λ n. sets (now (args .buffer)) n (bytesOf (width - head .i) value)) next)
+          (ap (λ l. set l (args .at + (head .i - 1)) (head .left % 256))
+          (head .inv .2 ∙ ap (λ n. sets (now (args .buffer)) n (bytesOf (width - head .i) value)) next)
           ∙ put-more (now (args .buffer)) (args .at + (head .i - 1)) (width - head .i) value (head .left) (head .inv .1)),
     )
 

@@ -7,8 +7,10 @@ use denote.Ref.{now}
 use lib.ListN.{length, getD, take, drop, length-take, length-drop}
 use Rattle.frame.specs.Digits.{numberOf, sum}
 use Rattle.frame.specs.Frames.{body, known}
-use Rattle.frame.proofs.DigitLaws.{Bytes, bytes-drop, bytes-take, numberOf-lt}
-use Rattle.frame.proofs.FrameLaws.{notAFrame-empty, notAFrame-length, notAFrame-unknown, reading-multicast, reading-propose, reading-refused}
+use Rattle.frame.specs.Typed.{Bytes}
+use Rattle.frame.proofs.DigitLaws.{bytes-drop, bytes-take, numberOf-lt}
+use Rattle.frame.proofs.FrameLaws.{notAFrame-empty, notAFrame-length, notAFrame-unknown}
+use Rattle.frame.proofs.FrameLaws.{reading-multicast, reading-propose, reading-refused}
 use borrow.Author.Needs.{needs}
 use Rattle.frame.proofs.read.Statement.{statement}
 use Rattle.frame.proofs.read.Tie as tie
@@ -22,7 +24,9 @@ returns-2 c = sym (reading-refused _ (notAFrame-length _ 1 (omega arith) (λ e. 
 
 returns-3 : tie.Need-returns-3
 returns-3 c =
-    let bs = now (c .before .before .before .before .before .before .before .before .args .bytes) in
+    let c₆ = c .before .before .before .before .before .before in
+    let args = c₆ .before .before .args in
+    let bs = now (args .bytes) in
     ap (λ p. record { answer = 0; frame = record { kind = 1; numbers = p ∷ getD bs 5 0 ∷ [] } }) (c .before .number .ensures)
     ∙ sym (reading-multicast _ (omega arith) (omega arith))
 
@@ -32,7 +36,9 @@ returns-4 c = sym (reading-refused _ (notAFrame-length _ 2 (omega arith) (λ e. 
 
 cast-t34 : tie.Need-cast-t34
 cast-t34 c =
-    let bs = now (c .before .before .before .before .before .before .before .before .before .before .before .before .args .bytes) in
+    let c₆ = c .before .before .before .before .before .before in
+    let args = c₆ .before .before .before .before .before .before .args in
+    let bs = now (args .bytes) in
     let bytes : Bytes bs = λ i. c .before .before .shared-slice-known5 .given i .fits in
     let part = take 2 (drop 7 bs) in
     let small : numberOf part < 256 ^ length part = numberOf-lt part (bytes-take 2 (drop 7 bs) (bytes-drop 7 bs bytes)) in
@@ -41,9 +47,12 @@ cast-t34 c =
 
 returns-5 : tie.Need-returns-5
 returns-5 c =
-    let bs = now (c .before .before .before .before .before .before .before .before .before .before .before .before .args .bytes) in
+    let c₆ = c .before .before .before .before .before .before in
+    let args = c₆ .before .before .before .before .before .before .args in
+    let number2 = c .before .before .before .before .number2 in
+    let bs = now (args .bytes) in
     ap₂ (λ p t. record { answer = 0; frame = record { kind = 2; numbers = p ∷ getD bs 5 0 ∷ getD bs 6 0 ∷ t ∷ [] } })
-    (c .before .before .before .before .number2 .ensures)
+    (number2 .ensures)
     (c .number3 .ensures)
     ∙ sym (reading-propose _ (omega arith) (omega arith))
 

@@ -37,7 +37,8 @@ returns-2 c =
     (fourth .put4 .ensures .1))
     from
     (fifth .put5 .ensures .1))
-    ∙ writing-puts (valuesOf (Propose (a .payment) (a .destinations) (a .source) (a .time))) (now (a .buffer)) (omega arith) refl (omega arith)
+    ∙ writing-puts (valuesOf (Propose (a .payment) (a .destinations) (a .source) (a .time))) (now (a .buffer)) (omega arith) refl
+    (omega arith)
 
 pub write-propose-spec : {M : Type 1} → statement M
 write-propose-spec =

@@ -21,15 +21,23 @@ unfolding any
 loop-holds c = search needs
 
 returns : tie.Need-returns Inv-loop μ-loop
-returns c = sym (first-found limit (isNumber (c .before .before .before .before .before .before .args .t1) (c .before .before .before .before .before .before .args .number .0)) (c .before .before .before .before .before .loop .i) (c .before .before .before .before .loop-test .taken) (c .before .before .before .before .before .loop .inv .1) (eq-eqb _ _ (c .if1 .taken)))
+returns c =
+    let args = c .before .before .before .before .before .before .args in
+    let loop = c .before .before .before .before .before .loop in
+    let loop-test = c .before .before .before .before .loop-test in
+    sym (first-found limit (isNumber (args .t1) (args .number .0)) (loop .i) (loop-test .taken) (loop .inv .1) (eq-eqb _ _ (c .if1 .taken)))
 
 loop-again : tie.Need-loop-again Inv-loop μ-loop
-loop-again c = (search needs, any-more (isNumber (c .before .before .before .before .before .before .args .t1) (c .before .before .before .before .before .before .args .number .0)) (c .before .before .before .before .before .loop .i) (c .before .before .before .before .before .loop .inv .1) (ne-eqb _ _ (c .if1 .left)))
+loop-again c =
+    let args = c .before .before .before .before .before .before .args in
+    let loop = c .before .before .before .before .before .loop in
+    (search needs, any-more (isNumber (args .t1) (args .number .0)) (loop .i) (loop .inv .1) (ne-eqb _ _ (c .if1 .left)))
 
 returns-2 : tie.Need-returns-2 Inv-loop μ-loop
 returns-2 c =
+    let args = c .before .before .args in
     let e : c .before .loop .i ≡ limit = omega arith in
-    sym (first-none limit (isNumber (c .before .before .args .t1) (c .before .before .args .number .0)) (rw e at (c .before .loop .inv .1)))
+    sym (first-none limit (isNumber (args .t1) (args .number .0)) (rw e at (c .before .loop .inv .1)))
 
 pub find-spec : {M : Type 1} → statement M
 find-spec =

@@ -1,4 +1,5 @@
 use mathlib.Core.List.{[], _∷_}
+use native.Mathlib.Omega.{arith}
 use Rattle.lines.specs.Decimal.{decimal}
 use Rattle.lines.proofs.TextLaws.{then}
 use borrow.Author.Needs.{needs}
@@ -7,10 +8,15 @@ use Rattle.lines.proofs.item.Tie as tie
 
 returns : tie.Need-returns
 returns c =
-    let a = c .before .before .before .before .before .before .before .before .before .before .before .before .before .args in
-    then (32 ∷ a .letter ∷ []) (decimal (a .n))
-    (then (32 ∷ []) (a .letter ∷ []) (c .before .before .before .before .before .before .before .before .before .before .put .ensures) (c .before .before .before .before .before .before .put2 .ensures))
-    (c .before .before .number .ensures)
+    let c₂ = c .before .before in
+    let c₆ = c₂ .before .before .before .before in
+    let c₁₀ = c₆ .before .before .before .before in
+    let a = c₁₀ .before .before .before .args in (
+      then (32 ∷ a .letter ∷ []) (decimal (a .n))
+          (then (32 ∷ []) (a .letter ∷ []) (c₁₀ .put .ensures) (c₆ .put2 .ensures))
+          (c₂ .number .ensures .0),
+      omega (arith, c₂ .number .ensures .1, c₆ .put2 .ensures .reached, c₁₀ .put .ensures .reached),
+    )
 
 pub item-spec : {M : Type 1} → statement M
 item-spec =

@@ -8,8 +8,7 @@ use denote.Ref.{now}
 use lib.ListN.{getD, take}
 use Rattle.lines.specs.Lines.{posting, spaced}
 use Rattle.lines.specs.Standing.{Stands}
-use Rattle.lines.proofs.DecimalLaws.{length-digits}
-use Rattle.lines.proofs.TextLaws.{kept, none, same, spaced-more, then}
+use Rattle.lines.proofs.TextLaws.{kept, none, same, spaced-more, then, wide}
 use borrow.Author.Needs.{needs}
 use Rattle.lines.proofs.postings.Statement.{statement}
 use Rattle.lines.proofs.postings.Tie as tie
@@ -26,16 +25,17 @@ unfolding spaced
 loop-holds c = (search needs, search needs, none _ _)
 
 cast-item : tie.Need-cast-item Inv-loop μ-loop
-cast-item c = omega (arith, c .shared-slice-known2 .given (c .before .before .before .loop .i))
+cast-item c = wide (c .shared-slice-known2 .given _)
 
 loop-again : tie.Need-loop-again Inv-loop μ-loop
 loop-again c =
-    let head = c .before .before .before .before .before .before .loop in
-    let list = now (c .before .before .before .before .before .before .before .before .before .args .list) in
-    let item = c .before .before .item in (
+    let c₂ = c .before .before in
+    let c₆ = c₂ .before .before .before .before in
+    let list = now (c₆ .before .before .before .args .list) in
+    let i = c₆ .loop .i in (
       search needs,
-      omega (arith, item .ensures .reached, length-digits 20 (getD list (head .i) 0)),
-      same (spaced-more posting list (head .i) (omega arith)) (then _ (32 ∷ posting (getD list (head .i) 0)) (head .inv .2) (item .ensures)),
+      omega (arith, c₂ .item .ensures .1),
+      same (spaced-more posting list i (omega arith)) (then _ (32 ∷ posting (getD list i 0)) (c₆ .loop .inv .2) (c₂ .item .ensures .0)),
     )
 
 same-length : tie.Need-same-length Inv-loop μ-loop
@@ -43,9 +43,10 @@ same-length c = kept (c .before .loop .inv .2)
 
 returns : tie.Need-returns Inv-loop μ-loop
 returns c =
-    let list = now (c .before .before .before .before .args .list) in
-    let end : c .before .loop .i ≡ c .before .before .before .before .args .count = omega arith in
-    same (ap (λ n. spaced (map posting (take n list))) end) (c .before .loop .inv .2)
+    let c₁ = c .before in
+    let a = c₁ .before .before .before .args in
+    let end : c₁ .loop .i ≡ a .count = omega arith in
+    (same (ap (λ n. spaced (map posting (take n (now (a .list))))) end) (c₁ .loop .inv .2), omega arith)
 
 pub postings-spec : {M : Type 1} → statement M
 postings-spec =

@@ -26,8 +26,9 @@ loop-holds c = (search needs, search needs, omega arith, none _ _)
 
 loop-again : tie.Need-loop-again Inv-loop μ-loop
 loop-again c =
+    let c₆ = c .before .before .before .before .before .before in
+    let a = c₆ .before .before .before .args in
     let head = c .before .before .before .before .before .before .loop in
-    let a = c .before .before .before .before .before .before .before .before .before .args in
     let put = c .before .before .put in (
       search needs,
       search needs,

@@ -22,17 +22,22 @@ loop-holds c = search needs
 
 loop-again : tie.Need-loop-again Inv-loop μ-loop
 loop-again c =
+    let args = c .before .before .before .before .args in
     let head = c .before .before .before .loop in
-    let times = c .before .before .before .before .args .times in
-    let heard = c .before .before .before .before .args .heard in
+    let times = args .times in
+    let heard = args .heard in
     let is = c .before .among .ensures in (
       search needs,
       ⊎-elim
-          (λ w. let same : _≡_ {A = Stamp} (record { time = w .1 .result; ledger = record { 0 = head .k + 1 } }) (proposal times (head .k + 1)) = ap (λ t. record { time = t; ledger = record { 0 = head .k + 1 } }) (w .1 .ensures) in
-          w .4 ∙ same ∙ greatest-next times heard (head .k) (head .best) (head .inv .1) (sym is ∙ w .0 .taken) (ap (below (head .best)) (sym same) ∙ sym (w .2 .ensures) ∙ w .3 .taken))
+          (λ w. let same : _≡_ {A = Stamp} (record { time = w .1 .result; ledger = record { 0 = head .k + 1 } })
+          (proposal times (head .k + 1)) = ap (λ t. record { time = t; ledger = record { 0 = head .k + 1 } }) (w .1 .ensures) in
+          w .4 ∙ same ∙ greatest-next times heard (head .k) (head .best) (head .inv .1) (sym is ∙ w .0 .taken)
+          (ap (below (head .best)) (sym same) ∙ sym (w .2 .ensures) ∙ w .3 .taken))
           (⊎-elim
-          (λ w. let same : _≡_ {A = Stamp} (record { time = w .1 .result; ledger = record { 0 = head .k + 1 } }) (proposal times (head .k + 1)) = ap (λ t. record { time = t; ledger = record { 0 = head .k + 1 } }) (w .1 .ensures) in
-          w .4 ∙ greatest-keeps times heard (head .k) (head .best) (head .inv .1) (ap (below (head .best)) (sym same) ∙ sym (w .2 .ensures) ∙ w .3 .left))
+          (λ w. let same : _≡_ {A = Stamp} (record { time = w .1 .result; ledger = record { 0 = head .k + 1 } })
+          (proposal times (head .k + 1)) = ap (λ t. record { time = t; ledger = record { 0 = head .k + 1 } }) (w .1 .ensures) in
+          w .4 ∙ greatest-keeps times heard (head .k) (head .best) (head .inv .1)
+          (ap (below (head .best)) (sym same) ∙ sym (w .2 .ensures) ∙ w .3 .left))
           (λ w. w .1 ∙ greatest-unheard times heard (head .k) (head .best) (head .inv .1) (sym is ∙ w .0 .left)))
           (c .if1 .came),
     )

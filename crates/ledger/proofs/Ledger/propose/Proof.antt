@@ -1,32 +1,35 @@
-use mathlib.Core.Path.{ap, _∙_}
+use mathlib.Core.Path.{ap, sym, subst, _∙_}
+use mathlib.Core.Bool.{cond}
+use Prim.Native.Nat.{_+_, _<_}
 use lib.ListN.{set}
-use Rattle.payment.specs.Payments.{hear}
-use Rattle.ledger.specs.Step.{proposeRule}
 use borrow.Author.Needs.{needs}
+use Rattle.payment.specs.Payments.{hear}
+use Rattle.held.specs.Held.{limit}
+use Rattle.ledger.specs.Step.{proposeRule}
 use Rattle.ledger.proofs.Ledger.propose.Statement.{statement}
 use Rattle.ledger.proofs.Ledger.propose.Tie as tie
+
+keep-requires : tie.Need-keep-requires
+keep-requires c κs =
+    let may = c .before .before .before .pre in
+    (subst (λ n. n < limit) (sym (may .place)) (may .room), may .count)
 
 returns : tie.Need-returns
 unfolding proposeRule
 returns c =
-    let l = c .before .before .before .before .args .t1 in
-    let f = c .before .before .before .before .args .f in
-    λ k. record {
+    let c₄ = c .before .before .before .before in
+    let l = c₄ .args .self in
+    let f = c₄ .args .judged .frame in
+    let may = c₄ .pre in
+    let heard = c .before .hear .ensures ∙ ap (λ p. hear p (f .source .0) (f .time)) (may .payment) in
+    c .keep .ensures
+    ∙ (λ k. record {
       group = l .group;
       own = l .own;
       clock = l .clock;
-      count = (c .before .before .count-for .ensures) k;
-      payments = set (l .payments) ((c .before .before .before .place-for .ensures) k) ((c .hear .ensures ∙ ap (λ p. hear p (f .source .0) (f .time)) (c .before .payment-for .ensures)) k);
-    }
+      count = cond (may .held k) (l .count) (l .count + 1);
+      payments = set (l .payments) (may .place k) (heard k);
+    })
 
 pub propose-spec : {M : Type 1} → statement M
-propose-spec =
-    tie.close
-    (tie.spec
-    (λ c κs. search needs)
-    (λ c κs. search needs)
-    (λ c κs. search needs)
-    (λ c κs. search needs)
-    (λ c. search needs)
-    (λ c. search needs)
-    returns)
+propose-spec = tie.close (tie.spec (λ c κs. search needs) keep-requires returns)

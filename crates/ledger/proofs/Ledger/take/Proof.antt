@@ -1,22 +1,41 @@
-use mathlib.Core.Path.{ap, ap₂, _∙_}
-use Rattle.ledger.specs.Step.{postRule, stampRule}
-use Rattle.payment.specs.Ledgers.{howMany}
+use mathlib.Core.Path.{ap, ap₂, sym, subst, _∙_}
+use Prim.Native.Nat.{_<_}
 use denote.Ref.{now}
 use borrow.Author.Needs.{needs}
+use Rattle.ledgers.specs.Ledgers.{howMany}
+use Rattle.held.specs.Held.{limit}
+use Rattle.ledger.specs.Step.{postRule, stampRule}
 use Rattle.ledger.proofs.Ledger.take.Statement.{statement}
 use Rattle.ledger.proofs.Ledger.take.Tie as tie
 
+send-requires : tie.Need-send-requires
+send-requires c κs =
+    let pre = c .before .before .before .before .before .pre in
+    (c .before .recipients .ensures, pre .0 .clock)
+
+stamp-requires : tie.Need-stamp-requires
+stamp-requires c κs =
+    let c₆ = c .before .before .before .before .before .before in
+    let pre = c₆ .before .before .before .pre in
+    let may = pre .0 in
+    subst (λ n. n < limit) (sym (may .place)) (may .room)
+
 returns : tie.Need-returns
 returns c =
-    let a = c .before .before .before .before .before .before .before .before .before .before .before .before .before .before .before .before .args in
-    let settled = c .before .before .before .before .post .ensures ∙ ap (λ l. postRule l (now (a .postings))) (c .before .before .before .before .before .before .stamp .ensures ∙ ap₂ stampRule (c .before .before .before .before .before .before .before .receive .ensures) (c .before .before .before .before .before .before .before .before .place-for .ensures)) in
+    let c₄ = c .before .before .before .before in
+    let c₆ = c₄ .before .before in
+    let c₁₀ = c₆ .before .before .before .before in
+    let c₁₂ = c₁₀ .before .before in
+    let start = c₁₂ .before .before .before .before in
+    let stamped = c₆ .stamp .ensures ∙ ap₂ stampRule (c₆ .before .after-hearing .ensures) (start .pre .0 .place) in
+    let settled = c₄ .post .ensures ∙ ap (λ l. postRule l (now (start .args .postings))) stamped in
     λ k. record {
       state = settled k .state;
       answer = 0;
-      recipients = (c .before .before .before .before .before .before .before .before .before .before .before .before .before .recipients .ensures) k;
-      copies = (c .how-many .ensures ∙ ap howMany (c .before .before .before .before .before .before .before .before .before .before .before .before .before .recipients .ensures)) k;
+      recipients = c₁₂ .recipients .ensures k;
+      copies = (c .how-many .ensures ∙ ap howMany (c₁₂ .recipients .ensures)) k;
       postings = settled k .count;
-      outgoing = (c .before .before .before .before .before .before .before .before .before .before .before .send .ensures) k;
+      outgoing = c₁₀ .send .ensures k;
       list = settled k .list;
     }
 
@@ -25,10 +44,9 @@ take-spec =
     tie.close
     (tie.spec
     (λ c κs. search needs)
+    send-requires
     (λ c κs. search needs)
-    (λ c κs. search needs)
-    (λ c κs. search needs)
-    (λ c κs. search needs)
+    stamp-requires
     (λ c κs. search needs)
     (λ c κs. search needs)
     (λ c. search needs)

@@ -2,7 +2,7 @@ use mathlib.Core.Path.{ap, sym, _∙_}
 use Prim.Native.Nat.{_-_}
 use Rattle.payment.proofs.PaymentLaws.{hear-at, hear-beyond, hear-none}
 use lib.ListN.{set}
-use Rattle.payment.proofs.LedgerLaws.{with-bit}
+use Rattle.ledgers.proofs.LedgerLaws.{with-bit}
 use borrow.Author.Needs.{needs}
 use Rattle.payment.proofs.Payment.hear.Statement.{statement}
 use Rattle.payment.proofs.Payment.hear.Tie as tie
@@ -15,11 +15,18 @@ returns-2 c = sym (hear-beyond _ _ _ (c .if2 .taken))
 
 returns-3 : tie.Need-returns-3
 returns-3 c =
-    let p = c .before .before .args .t1 in
-    let k = c .before .before .args .ledger .0 in
-    ap (λ h. record { number = p .number; destinations = p .destinations; heard = h; times = set (p .times) (k - 1) (c .before .before .args .time); phase = p .phase })
+    let args = c .before .before .args in
+    let p = args .t1 in
+    let k = args .ledger .0 in
+    ap (λ h. record {
+      number = p .number;
+      destinations = p .destinations;
+      heard = h;
+      times = set (p .times) (k - 1) (args .time);
+      phase = p .phase;
+    })
     (with-bit (p .heard) k (c .before .before .good .0 .1 .1 .1 .1 .0 .1) (c .before .if1 .left) (c .if2 .left))
-    ∙ sym (hear-at p k (c .before .before .args .time) (c .before .if1 .left) (c .if2 .left))
+    ∙ sym (hear-at p k (args .time) (c .before .if1 .left) (c .if2 .left))
 
 pub hear-spec : {M : Type 1} → statement M
 hear-spec =

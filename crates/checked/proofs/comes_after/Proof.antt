@@ -1,0 +1,28 @@
+use mathlib.Core.Path.{ap, sym, _∙_}
+use mathlib.Core.Bool.{not, _||_}
+use lib.Dec.{ltb}
+use borrow.Author.Needs.{needs}
+use Rattle.payment.specs.Payments.{isProposed}
+use Rattle.payment.specs.Stamps.{below}
+use Rattle.checked.proofs.AfterLaws.{after-stamped, after-unstamped}
+use Rattle.checked.proofs.comes_after.Statement.{statement}
+use Rattle.checked.proofs.comes_after.Tie as tie
+
+returns : tie.Need-returns
+returns c =
+    let c₂ = c .before .before in
+    let a = c₂ .before .before .before .args in
+    c .is-below .ensures ∙ ap (below (a .stamp)) (c .before .stamp .ensures)
+    ∙ sym (after-stamped (a .own .0) (a .stamp) (a .p) (c₂ .if1 .taken))
+
+returns-2 : tie.Need-returns-2
+returns-2 c =
+    let c₂ = c .before .before in
+    let c₄ = c₂ .before .before in
+    let a = c₄ .before .before .before .args in
+    ap (λ t. not (isProposed (a .p)) || ltb (a .stamp .time .0) (t .0)) (c₂ .time-in .ensures)
+    ∙ sym (after-unstamped (a .own .0) (a .stamp) (a .p) (c₄ .if1 .left))
+
+pub comes-after-spec : {M : Type 1} → statement M
+comes-after-spec =
+    tie.close (tie.spec (λ c κs. search needs) (λ c κs. search needs) returns (λ c κs. search needs) returns-2)

@@ -1,0 +1,51 @@
+-- Document 01, "A state is sound when": the clauses that speak of the held payments together.
+-- Assumes nothing.
+use Prim.Native.Nat.{ℕ}
+use mathlib.Core.List.{List}
+use mathlib.Core.Bool.{Bool, not, _&&_, _||_}
+use lib.Dec.{leb, ltb}
+use Rattle.common.specs.Places.{every}
+use Rattle.payment.specs.Payments.{isPosted, isProposed, isStamped, stampOf, timeFrom}
+use Rattle.right.specs.Right.{unused}
+use Rattle.payment.specs.Stamps.{below}
+use Rattle.payment.specs.declared.Payment.{Payment}
+use Rattle.payment.specs.declared.Stamp.{Stamp}
+use Rattle.held.specs.Held.{at, limit}
+
+-- f holds of the payment at a place, where the place is used: the used ones come first, as many as the count
+abbrev pub heldAt : List Payment → ℕ → (Payment → Bool) → ℕ → Bool
+heldAt payments count f i = leb count i || f (at payments i)
+
+-- of every held payment
+abbrev pub heldAll : List Payment → ℕ → (Payment → Bool) → Bool
+heldAll payments count f = every limit (heldAt payments count f)
+
+-- f holds of the payment at a place with each before it, where the place is used
+abbrev pub pairedAt : List Payment → ℕ → (Payment → Payment → Bool) → ℕ → Bool
+pairedAt payments count f i = leb count i || every i (λ j. f (at payments i) (at payments j))
+
+-- of every two held payments, each pair once
+abbrev pub heldPairs : List Payment → ℕ → (Payment → Payment → Bool) → Bool
+heldPairs payments count f = every limit (pairedAt payments count f)
+
+-- the place is used, or all zero
+abbrev pub unusedAt : List Payment → ℕ → ℕ → Bool
+unusedAt payments count i = ltb i count || unused (at payments i)
+
+-- every place from the count on is all zero (that those before it are used is said by their numbers, which are not 0)
+abbrev pub unusedAll : List Payment → ℕ → Bool
+unusedAll payments count = every limit (unusedAt payments count)
+
+-- a payment may stand unposted beside a posted stamp: if it is stamped, the posted stamp is below its own; if it is proposed, the
+-- posted time is below its own time; of any other nothing is asked
+unfoldable pub comesAfter : ℕ → Stamp → Payment → Bool
+comesAfter own stamp p =
+    (not (isStamped p) || below stamp (stampOf p)) && (not (isProposed p) || ltb (stamp .time .0) (timeFrom p own))
+
+-- where p is posted, every payment comes after it
+abbrev pub belowAll : List Payment → ℕ → Payment → Bool
+belowAll payments own p = not (isPosted p) || every limit (λ j. comesAfter own (stampOf p) (at payments j))
+
+-- each posted stamp is below each stamped, unposted one, and its time is below each proposed payment's own time
+abbrev pub postedBelow : List Payment → ℕ → Bool
+postedBelow payments own = every limit (λ i. belowAll payments own (at payments i))

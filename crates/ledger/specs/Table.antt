@@ -1,0 +1,29 @@
+-- When a ledger says no: the whole table, in its order; the first row that applies is given.
+-- Assumes nothing.
+use Prim.Native.Nat.{ℕ}
+use mathlib.Core.List.{List, _∷_}
+use mathlib.Core.Bool.{not, _||_}
+use lib.ListN.{length}
+use lib.Dec.{ltb}
+use Rattle.frame.specs.Frames.{propose, total}
+use Rattle.held.specs.Held.{limit}
+use Rattle.refusals.specs.Refusals.{Row, firstGiven, frameRows, row, rows}
+use Rattle.refusals.specs.declared.Incoming.{Incoming}
+use Rattle.ledger.specs.Sound.{sound}
+use Rattle.ledger.specs.declared.Ledger.{Ledger}
+
+-- the rows that judge a frame's values, 4 to 11, by what the ledger keeps
+abbrev pub valueRows : Ledger → Incoming → List Row
+valueRows l f = rows (l .group) (l .own .0) (l .clock .0) (l .count) (l .payments) f
+
+-- 1, the state is not sound; 2, no room for a PROPOSE in the outgoing buffer, or for as many postings as can be held in the list;
+-- then the rows that judge the frame
+abbrev pub refusals : Ledger → List ℕ → List ℕ → List ℕ → List Row
+refusals l frame outgoing list =
+    row 1 (not (sound l))
+    ∷ row 2 (ltb (length outgoing) (total (propose .kind)) || ltb (length list) limit)
+    ∷ frameRows (l .group) (l .own .0) (l .clock .0) (l .count) (l .payments) frame
+
+-- the answer of a step
+abbrev pub answerTo : Ledger → List ℕ → List ℕ → List ℕ → ℕ
+answerTo l frame outgoing list = firstGiven (refusals l frame outgoing list)

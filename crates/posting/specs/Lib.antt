@@ -1,0 +1,3 @@
+-- What a reader must believe of posting.
+-- Assumes nothing.
+pub mod Posting

@@ -1,0 +1,69 @@
+-- Document 01, rule 4: which stamped payments are posted, and in which order.
+-- Assumes nothing.
+use Prim.Native.Nat.{ℕ}
+use mathlib.Core.List.{List, map, _++_}
+use mathlib.Core.Bool.{Bool, cond, not, _&&_}
+use lib.ListN.{length, drop}
+use lib.Dec.{leb, ltb}
+use Rattle.common.specs.Places.{any, listed}
+use Rattle.common.specs.Order.{sorted}
+use Rattle.payment.specs.Payments.{inPhase, isProposed, isStamped, posted, stampOf, timeFrom}
+use Rattle.payment.specs.Stamps.{below}
+use Rattle.payment.specs.declared.Payment.{Payment}
+use Rattle.payment.specs.declared.Stamp.{Stamp}
+use Rattle.held.specs.Held.{at, limit}
+use Rattle.posting.specs.declared.Posted.{Posted}
+
+-- a payment still proposed here holds back while its own time is less than or equal to the stamp's time
+unfoldable pub holdsBack : ℕ → Stamp → Payment → Bool
+holdsBack own stamp p = isProposed p && leb (timeFrom p own) (stamp .time .0)
+
+-- a stamp is held back while any payment holds it back
+abbrev pub heldBack : List Payment → ℕ → Stamp → Bool
+heldBack payments own stamp = any limit (λ j. holdsBack own stamp (at payments j))
+
+-- free to post: stamped, not posted, and not held back
+unfoldable pub isFree : List Payment → ℕ → ℕ → Bool
+isFree payments own i =
+    isStamped (at payments i) && not (heldBack payments own (stampOf (at payments i)))
+
+-- soundness: no stamped payment is free to post
+abbrev pub noneFree : List Payment → ℕ → Bool
+noneFree payments own = not (any limit (isFree payments own))
+
+-- in rising stamp order
+abbrev pub before : List Payment → ℕ → ℕ → Bool
+before payments i j = below (stampOf (at payments i)) (stampOf (at payments j))
+
+-- the places of all that are free, in rising stamp order
+abbrev pub toPost : List Payment → ℕ → List ℕ
+toPost payments own = sorted (before payments) (isFree payments own) limit
+
+-- all that are free are posted; every other payment is as it was
+unfoldable pub afterPosting : List Payment → ℕ → List Payment
+afterPosting payments own =
+    listed limit (λ i. cond (isFree payments own i) (inPhase posted (at payments i)) (at payments i))
+
+-- their numbers, in the order of posting
+abbrev pub numbers : List Payment → ℕ → List ℕ
+numbers payments own = map (λ i. at payments i .number .0) (toPost payments own)
+
+-- what posting leaves: the payments, how many were posted, and the whole posting list
+pub record Posting : Type 0 where
+  pub payments : List Payment
+  pub count : ℕ
+  pub list : List ℕ
+
+abbrev pub left : Posted → List ℕ → Posting
+left r list = record { payments = r .payments; count = r .count; list = list }
+
+-- the numbers are written from the list's first place; places beyond stay as they were
+abbrev pub written : List Payment → ℕ → List ℕ → Posting
+written payments own list =
+    let ns = numbers payments own in
+    record { payments = afterPosting payments own; count = length ns; list = ns ++ drop (length ns) list }
+
+-- the promise of the code's post: into a list that is too short nothing is posted (ours: the step has answered 2 before)
+unfoldable pub posting : List Payment → ℕ → List ℕ → Posting
+posting payments own list =
+    cond (ltb (length list) limit) (record { payments = payments; count = 0; list = list }) (written payments own list)

@@ -1,0 +1,88 @@
+// Posting: which stamped payments are free, and posting them in rising stamp order.
+use frame::LedgerNo;
+use frame::Time;
+use held::HELD;
+use payment::Payment;
+use payment::Stamp;
+ghost use mathlib.Core.Path.{_≡_};
+ghost use Rattle.common.specs.Order.{least};
+ghost use Rattle.held.specs.Held.{limit};
+ghost use Rattle.posting.specs.Posting.{before, holdsBack, isFree, left, noneFree, posting};
+
+// Whether a payment is still proposed with an own time that holds a stamp back.
+fn holds_back(p: Payment, own: LedgerNo, stamp: Stamp) -> bool
+    ensures { λ r. ⌜ r ≡ holdsBack (own .0) stamp p ⌝ }
+{
+    let times = p.times;
+    (p.phase == payment::PROPOSED) & (payment::time_in(times, own).0 <= stamp.time.0)
+}
+
+// The place of the stamped payment of the least stamp that no proposed payment holds back; HELD where there is none.
+fn next(payments: [Payment; HELD], own: LedgerNo) -> usize
+    ensures { λ r. ⌜ r ≡ least limit (before payments) (isFree payments (own .0)) limit ⌝ }
+{
+    let mut best = HELD;
+    let mut first = Stamp {
+        time: Time(0),
+        ledger: LedgerNo(0),
+    };
+    'candidates: for i in 0..HELD {
+        let p = payments[i];
+        if p.phase != payment::STAMPED {
+            continue 'candidates;
+        }
+        let stamp = p.stamp();
+        for j in 0..HELD {
+            let q = payments[j];
+            if holds_back(q, own, stamp) {
+                continue 'candidates;
+            }
+        }
+        if best == HELD {
+            best = i;
+            first = stamp;
+        } else if stamp.is_below(first) {
+            best = i;
+            first = stamp;
+        }
+    }
+    best
+}
+
+// Whether no stamped payment is free to post.
+pub fn none_free(payments: [Payment; HELD], own: LedgerNo) -> bool
+    ensures { λ r. ⌜ r ≡ noneFree payments (own .0) ⌝ }
+{
+    next(payments, own) == HELD
+}
+
+pub struct Posted {
+    pub payments: [Payment; HELD],
+    pub count: usize,
+}
+
+// Posts all that are free, in rising stamp order, their numbers from the list's first place.
+pub fn post(mut payments: [Payment; HELD], own: LedgerNo, list: &mut [u32]) -> Posted
+    ensures { λ r. ⌜ left r (now (list .exit)) ≡ posting payments (own .0) (now (list .entry)) ⌝ }
+{
+    if list.len() < HELD {
+        return Posted {
+            payments: payments,
+            count: 0,
+        };
+    }
+    let mut n: usize = 0;
+    let mut i = next(payments, own);
+    while i < HELD {
+        let mut p = payments[i];
+        list[n] = p.number.0;
+        n += 1;
+        p.phase = payment::POSTED;
+        payments[i] = p;
+        i = next(payments, own);
+    }
+    Posted {
+        payments: payments,
+        count: n,
+    }
+}

@@ -1,0 +1,3 @@
+-- What a reader must believe of the refusals that judge a frame.
+-- Assumes nothing.
+pub mod Refusals

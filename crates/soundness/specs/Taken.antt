@@ -1,0 +1,46 @@
+-- What is said of a step that is taken, beside its promise.
+-- Assumes nothing.
+use Prim.Native.Nat.{ℕ, _<_, _≤_}
+use mathlib.Core.Path.{_≡_}
+use mathlib.Core.List.{List, _++_}
+use mathlib.Core.Bool.{true, false}
+use lib.ListN.{drop, length}
+use Rattle.common.specs.Order.{Rising}
+use Rattle.common.specs.Places.{All, In}
+use Rattle.ledgers.specs.Ledgers.{mostLedgers}
+use Rattle.payment.specs.Payments.{heardFrom, proposal, stampOf}
+use Rattle.payment.specs.Stamps.{below}
+use Rattle.payment.specs.declared.Payment.{Payment}
+use Rattle.held.specs.Held.{limit}
+use Rattle.posting.specs.Posting.{afterPosting, before, isFree, noneFree, numbers, toPost}
+use Rattle.ledger.specs.Sound.{sound}
+use Rattle.ledger.specs.Step.{Outcome, step}
+use Rattle.ledger.specs.declared.Ledger.{Ledger}
+use Rattle.soundness.specs.Shaped.{Shaped}
+
+-- what rule 4 says of a step that is taken; `after` is the ledger when the payment has been heard, and stamped if all were
+pub record Posts (after : Ledger) (list : List ℕ) (o : Outcome) : Type 0 where
+  -- their numbers are written from the list's first place, and every place beyond is as it was
+  pub list-is : o .list ≡ numbers (after .payments) (after .own .0) ++ drop (o .postings) list
+  -- as many as are free
+  pub count-is : o .postings ≡ length (toPost (after .payments) (after .own .0))
+  -- exactly the payments that were free
+  pub only-free : All (λ i. (i < limit) × (isFree (after .payments) (after .own .0) i ≡ true)) (toPost (after .payments) (after .own .0))
+  pub all-free : (i : ℕ) → i < limit → isFree (after .payments) (after .own .0) i ≡ true → In i (toPost (after .payments) (after .own .0))
+  -- strictly rising by stamp, and so each once
+  pub rising : Rising (before (after .payments)) (toPost (after .payments) (after .own .0))
+  -- they are posted, and every other payment is as it was
+  pub payments-are : o .state .payments ≡ afterPosting (after .payments) (after .own .0)
+  -- afterwards no stamped payment is free
+  pub none-left : noneFree (o .state .payments) (o .state .own .0) ≡ true
+
+-- the stamp of a payment is the proposal of a ledger that was heard, and no proposal that was heard is above it
+pub record IsGreatest (p : Payment) : Type 0 where
+  pub ledger : ℕ
+  pub heard : heardFrom p ledger ≡ true
+  pub is : stampOf p ≡ proposal (p .times) ledger
+  pub none-above : (k : ℕ) → 1 ≤ k → k ≤ mostLedgers → heardFrom p k ≡ true → below (stampOf p) (proposal (p .times) k) ≡ false
+
+-- a step on a sound state gives a sound state, whatever the frame and the buffers
+abbrev pub KeepsSound : Type 0
+KeepsSound = (l : Ledger) (frame outgoing list : List ℕ) → Shaped l → sound l ≡ true → sound (step l frame outgoing list .state) ≡ true

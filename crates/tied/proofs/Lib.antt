@@ -1,0 +1,3 @@
+-- What the types of the code say of values.
+-- Assumes nothing.
+pub mod Values
