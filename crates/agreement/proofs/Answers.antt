@@ -1,4 +1,4 @@
--- In a run only 0 and 9 are answered: no other row of the table applies.
+-- In a run nothing but 0 and 9 is answered [G8]: no other row of the table applies.
 -- Assumes nothing.
 use Prim.Native.Nat.{ℕ, _^_, _<_, _≤_}
 use mathlib.Core.Path.{_≡_, refl, ap, sym, _∙_, subst}

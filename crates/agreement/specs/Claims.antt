@@ -1,4 +1,4 @@
--- Demand 3: what is claimed of every run.
+-- Demand 3: what is claimed of every run [G8 to G15].
 -- Assumes nothing.
 use Prim.Native.Nat.{ℕ, _<_, _≤_}
 use mathlib.Core.Path.{_≡_}
@@ -58,7 +58,7 @@ pub record HandedIn (frame : List ℕ) (k : ℕ) (cs : List Call) : Type 0 where
   pub to : call .to ≡ k
   pub bytes : call .frame ≡ frame
 
--- every copy is handed in: each MULTICAST copy of each payment to each destination, and each copy of each written PROPOSE to each
+-- [G7] every copy is handed in: that of each payment to each destination, and that of each written PROPOSE to each
 -- recipient, at least once
 pub record AllHandedIn (n : ℕ) (table : List Entry) (cs : List Call) : Type 0 where
   pub multicasts : (e : Entry) → In e table → (k : ℕ) → has (e .destinations) k ≡ true → HandedIn (multicastCopy e) k cs
@@ -68,7 +68,7 @@ pub record AllHandedIn (n : ℕ) (table : List Entry) (cs : List Call) : Type 0 
 abbrev pub OfGroup : ℕ → ℕ → Type 0
 OfGroup n k = (1 ≤ k) × (k ≤ n)
 
--- what has been stamped or posted stays so: every stamp is kept, and what was posted stays at the beginning of the log
+-- [G14] what has been stamped or posted stays so: every stamp is kept, and what was posted stays at the beginning of the log
 pub record Stays (k : ℕ) (now later : World) : Type 0 where
   pub stamps : (m : ℕ) (s : Stamp) → HasStamp (now .ledgers k) m s → HasStamp (later .ledgers k) m s
   pub added : List ℕ
@@ -76,44 +76,44 @@ pub record Stays (k : ℕ) (now later : World) : Type 0 where
 
 -- demand 3, after the calls cs of a run
 pub record Demand3 (n : ℕ) (table : List Entry) (cs : List Call) : Type 0 where
-  -- in such a run only 0 and 9 are answered
+  -- [G8] taken or a repeat: nothing else is answered
   pub answers : (a : ℕ) → In a (after n cs .answers) → (a ≡ 0) ⊎ (a ≡ 9)
-  -- one stamp per payment wherever it is stamped
+  -- [G9] two ledgers that have stamped a payment have the same stamp for it
   pub one-stamp : (j k m : ℕ) (s r : Stamp) → OfGroup n j → OfGroup n k
       → HasStamp (after n cs .ledgers j) m s → HasStamp (after n cs .ledgers k) m r → s ≡ r
-  -- no two alike, at the same ledger or at two
+  -- [G10] two payments have different stamps, at one ledger or at two
   pub no-two-alike : (j k x y : ℕ) (s : Stamp) → OfGroup n j → OfGroup n k
       → HasStamp (after n cs .ledgers j) x s → HasStamp (after n cs .ledgers k) y s → x ≡ y
-  -- each ledger's postings strictly rising by stamp
+  -- [G11] of two postings of a ledger the earlier has the lower stamp
   pub rising : (k x y : ℕ) → OfGroup n k → Precedes x y (after n cs .logs k) → Earlier (after n cs .ledgers k) x y
-  -- so no payment is posted twice
+  -- [G11, G13] so no payment is posted twice
   pub once : (k x : ℕ) → OfGroup n k → Precedes x x (after n cs .logs k) → ⊥
-  -- and two ledgers have their common payments in the same order
+  -- [G12] and two ledgers post what both post in the same order
   pub same-order : (j k x y : ℕ) → OfGroup n j → OfGroup n k → Precedes x y (after n cs .logs j)
       → In x (after n cs .logs k) → In y (after n cs .logs k) → Precedes x y (after n cs .logs k)
-  -- and nothing is missing before what is posted: a payment for this ledger whose stamp, at whatever ledger, is below has been posted
+  -- [G12] and nothing is missing before what is posted: a payment for this ledger whose stamp, at whatever ledger, is below has been posted
   pub no-gaps : (j k x y : ℕ) (s r : Stamp) → OfGroup n j → OfGroup n k → Addressed table k x → HasStamp (after n cs .ledgers j) x s
       → In y (after n cs .logs k) → HasStamp (after n cs .ledgers k) y r → below s r ≡ true → Precedes x y (after n cs .logs k)
-  -- what is posted has a stamp
+  -- [G11] what is posted has a stamp
   pub stamped : (k m : ℕ) → OfGroup n k → In m (after n cs .logs k) → (s : Stamp) × HasStamp (after n cs .ledgers k) m s
-  -- a ledger posts only its payments
+  -- [G13] a ledger posts only its payments
   pub only-its : (k m : ℕ) → OfGroup n k → In m (after n cs .logs k) → Addressed table k m
-  -- of which a MULTICAST copy was handed to it
+  -- [G13] of which a MULTICAST copy was handed to it
   pub asked : (k m : ℕ) → OfGroup n k → In m (after n cs .logs k) → (e : Entry) × In e table × (e .number ≡ m) × HandedIn (multicastCopy e) k cs
-  -- once every copy is handed in each ledger has posted all its payments (with the fields above: exactly these, once each)
+  -- [G13] when every copy is handed in, a ledger has posted all that is for it (with the fields above: just this, and nothing twice)
   pub all-posted : AllHandedIn n table cs → (k m : ℕ) → OfGroup n k → Addressed table k m → In m (after n cs .logs k)
-  -- what has been stamped or posted stays so in every longer run
+  -- [G14] what has been stamped or posted stays so in every longer run
   pub stays : (ds : List Call) → Calls n table (ds ++ cs) → (k : ℕ) → OfGroup n k → Stays k (after n cs) (after n (ds ++ cs))
 
 -- demand 3 is of every run
 abbrev pub Agreement : Type 0
 Agreement = (n : ℕ) (table : List Entry) (cs : List Call) → Run n table cs → Demand3 n table cs
 
--- and of every run of no more payments in all than a ledger can hold
+-- [G3] and of every run of no more payments in all than a ledger can hold
 abbrev pub AgreementInAll : Type 0
 AgreementInAll = (n : ℕ) (table : List Entry) (cs : List Call) → RunInAll n table cs → Demand3 n table cs
 
--- and every run can be gone on with until every copy is handed in
+-- [G7] and every run can be gone on with until every copy is handed in
 abbrev pub Completion : Type 0
 Completion = (n : ℕ) (table : List Entry) (cs : List Call) → Run n table cs
     → (ds : List Call) × Run n table (ds ++ cs) × AllHandedIn n table (ds ++ cs)

@@ -1,4 +1,4 @@
--- Document 01, "The run of demand 3".
+-- What a run of several ledgers is [G1 to G7].
 -- Assumes nothing.
 use Prim.Native.Nat.{ℕ, _<_, _≤_, _^_}
 use mathlib.Core.Path.{_≡_}
@@ -16,7 +16,7 @@ use Rattle.ledger.specs.State.{setUp}
 use Rattle.ledger.specs.Step.{step}
 use Rattle.ledger.specs.declared.Ledger.{Ledger}
 
--- a payment of a run: its number and its destinations
+-- [G2] a payment of a run: its number and its destinations
 pub record Entry : Type 0 where
   pub number : ℕ
   pub destinations : ℕ
@@ -27,25 +27,25 @@ noEntry = record { number = 0; destinations = 0 }
 
 -- the payments of a run of N ledgers, with what is asked of how many they are
 pub record LawfulWith (n : ℕ) (table : List Entry) (few-enough : Type 0) : Type 0 where
-  -- N from 1 to 8
+  -- [G1] so many ledgers can make a group
   pub ledgers : (1 ≤ n) × (n ≤ mostLedgers)
-  -- payments have different numbers
+  -- [G2] no two payments have the same number
   pub differ : (i j : ℕ) → i < j → j < length table → getD table i noEntry .number ≡ getD table j noEntry .number → ⊥
-  -- non-zero, of 32 bits
+  -- none is 0, and each has 32 bits [N2]
   pub number : (e : Entry) → In e table → (e .number ≡ 0 → ⊥) × (e .number < 2 ^ 32)
-  -- and destinations that are some, and none beyond N
+  -- each is for some ledger, and for none past N
   pub destinations : (e : Entry) → In e table → (e .destinations ≡ 0 → ⊥) × (e .destinations < 2 ^ n)
   pub few : few-enough
 
--- no ledger is a destination of more payments than it can hold (why this is asked: docs/DECISIONS.md, "The run")
+-- [G3] no ledger is a destination of more payments than it can hold (why this is asked: docs/DECISIONS.md, "The run")
 abbrev pub Lawful : ℕ → List Entry → Type 0
 Lawful n table = LawfulWith n table ((k : ℕ) → count (length table) (λ i. has (getD table i noEntry .destinations) k) ≤ limit)
 
--- there are no more payments in all than a ledger can hold
+-- [G3] there are no more payments in all than a ledger can hold
 abbrev pub LawfulInAll : ℕ → List Entry → Type 0
 LawfulInAll n table = LawfulWith n table (length table ≤ limit)
 
--- a PROPOSE that a step wrote, with its recipients: there is one copy for each
+-- [G5] a PROPOSE that a step wrote, with its recipients: each of them gets a copy
 pub record Written : Type 0 where
   pub frame : List ℕ
   pub recipients : ℕ
@@ -58,7 +58,7 @@ pub record World : Type 0 where
   pub logs : ℕ → List ℕ
   pub answers : List ℕ
 
--- one ledger for each number 1 to N, all set up with the same N (any other number has the all-zero state, and is never called)
+-- [G1] every ledger of the group is set up (any other number has the all-zero state, and is never called)
 abbrev pub start : ℕ → World
 start n = record { ledgers = λ k. setUp n k .state; written = []; logs = λ k. []; answers = [] }
 
@@ -73,7 +73,7 @@ pub record Call : Type 0 where
 abbrev pub replaced : {A : Type 0} → (ℕ → A) → ℕ → A → ℕ → A
 replaced f k x j = cond (eqb j k) x (f j)
 
--- each call gets the state its ledger last handed back; a PROPOSE was written where there are recipients; the first `postings`
+-- [G4, G15] a call steps on what its ledger gave back before; a PROPOSE was written where there are recipients; the first `postings`
 -- places of the list as handed back go to the end of the log
 unfoldable pub called : World → Call → World
 called w c =
@@ -90,26 +90,26 @@ unfoldable pub after : ℕ → List Call → World
 after n [] = start n
 after n (c ∷ cs) = called (after n cs) c
 
--- the MULTICAST copy of a payment
+-- [G5] the MULTICAST copy of a payment
 abbrev pub multicastCopy : Entry → List ℕ
 multicastCopy e = frameBytes (valuesOf (Multicast (record { 0 = e .number }) (e .destinations)))
 
--- a MULTICAST copy of a payment, for one of its destinations
+-- [G5, B3] a MULTICAST copy of a payment, for one of its destinations
 pub record OfDesk (table : List Entry) (c : Call) : Type 0 where
   pub entry : Entry
   pub in-table : In entry table
   pub frame : c .frame ≡ multicastCopy entry
   pub destination : has (entry .destinations) (c .to) ≡ true
 
--- a copy of a PROPOSE that an earlier step wrote, for one of its recipients
+-- [G5] a copy of a PROPOSE that an earlier step wrote, for one of its recipients
 pub record OfLedger (w : World) (c : Call) : Type 0 where
   pub propose : Written
   pub written : In propose (w .written)
   pub frame : c .frame ≡ propose .frame
   pub recipient : has (propose .recipients) (c .to) ≡ true
 
--- what may be handed in: any such copy, any number of times (a desk's retry is a repeat), to a ledger 1 to N, with any buffers
--- that are long enough for answer 2
+-- [G6] what may be handed in: any such copy, whenever and as often as one likes (so does a desk that tries again), to a ledger of the
+-- group, with buffers that have room [G4]
 pub record May (n : ℕ) (table : List Entry) (w : World) (c : Call) : Type 0 where
   pub ledger : (1 ≤ c .to) × (c .to ≤ n)
   pub outgoing : total (propose .kind) ≤ length (c .outgoing)
@@ -126,7 +126,7 @@ pub record Run (n : ℕ) (table : List Entry) (cs : List Call) : Type 0 where
   pub lawful : Lawful n table
   pub calls : Calls n table cs
 
--- a run of no more payments in all than a ledger can hold: what demand 3 is worded for
+-- [G3] a run of no more payments in all than a ledger can hold: what demand 3 is worded for
 pub record RunInAll (n : ℕ) (table : List Entry) (cs : List Call) : Type 0 where
   pub lawful : LawfulInAll n table
   pub calls : Calls n table cs

@@ -1,4 +1,4 @@
--- Document 01, "From the counter": what a worked case is, and when it runs as written.
+-- What a worked case is [C1], and when it runs as written.
 -- Assumes nothing.
 use Rattle.common.specs.Places.{sameNumbers}
 use Prim.Native.Nat.{ℕ, _-_}
@@ -25,7 +25,7 @@ pub record Stamped : Type 0 where
   pub ownTime : ℕ
   pub stamp : ℕ × ℕ
 
--- what is expected of a call: the answer, the clock afterwards, the payments posted in order, the frame sent, and where the paper
+-- what is expected of a call: the answer, the clock afterwards, the payments posted in order, the frame sent, and where the case
 -- says so how payments stand afterwards
 pub record Expected : Type 0 where
   pub answer : ℕ
@@ -45,12 +45,12 @@ pub record Case : Type 0 where
   pub letter : Char
   pub calls : List Call
 
--- ledgers 1 and 2 of 2
+-- [C1] ledgers 1 and 2 of 2
 pub record Ledgers : Type 0 where
   pub one : Ledger
   pub two : Ledger
 
--- fresh for each case
+-- [C1] fresh for each case
 abbrev pub fresh : Ledgers
 fresh = record { one = setUp 2 1 .state; two = setUp 2 2 .state }
 
@@ -105,7 +105,7 @@ runFrom ls (c ∷ cs) =
 abbrev pub runs : Case → Bool
 runs c = runFrom fresh (c .calls)
 
--- every case of a table runs as written
+-- [C2] every case of a table runs as written
 unfoldable pub allRun : List Case → Bool
 allRun [] = true
 allRun (c ∷ cs) = runs c && allRun cs

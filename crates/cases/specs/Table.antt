@@ -1,11 +1,11 @@
--- The worked cases that are proved, one definition a letter and one table of them all. A frame that rule 1 sends is always written out.
+-- The worked cases that are proved [C2], a definition for each letter and one table of them all. A frame that rule 1 sends is written out.
 -- Assumes nothing.
 use mathlib.Core.List.{List, [], _∷_}
 use Rattle.cases.specs.Cases.{Case}
 use Rattle.cases.specs.Words.{case, ledger_gets_⇒_, MULTICAST_to_, PROPOSE_to_from_time_}
 use Rattle.cases.specs.Words.{answer_clock_, _posts_, _bytes_recipients_copies_, _payment_own-time_stamp_}
 
--- the first MULTICAST of a payment for both ledgers, byte by byte
+-- [CA] the first MULTICAST of a payment for both ledgers, byte by byte
 unfoldable pub caseA : Case
 caseA =
     case "A"
@@ -14,7 +14,7 @@ caseA =
     bytes (0x02 ∷ 0x00 ∷ 0x00 ∷ 0x00 ∷ 0x07 ∷ 0x03 ∷ 0x01 ∷ 0x00 ∷ 0x01 ∷ []) recipients 2 copies 1
     ∷ [])
 
--- once more
+-- [CB] once more
 unfoldable pub caseB : Case
 caseB =
     case "B"
@@ -22,11 +22,11 @@ caseB =
     ∷ ledger 1 gets MULTICAST 7 to 3 ⇒ answer 9 clock 1
     ∷ [])
 
--- a payment for this ledger alone is posted at once
+-- [CC] a payment for this ledger alone is posted at once
 unfoldable pub caseC : Case
 caseC = case "C" (ledger 1 gets MULTICAST 7 to 1 ⇒ answer 0 clock 1 posts (7 ∷ []) ∷ [])
 
--- a PROPOSE before its MULTICAST
+-- [CD] a PROPOSE before its MULTICAST
 unfoldable pub caseD : Case
 caseD =
     case "D"
@@ -37,11 +37,11 @@ caseD =
     payment 7 own-time 1 stamp (5, 2)
     ∷ [])
 
--- a PROPOSE that names this ledger as its source
+-- [CE] a PROPOSE that names this ledger as its source
 unfoldable pub caseE : Case
 caseE = case "E" (ledger 1 gets PROPOSE 7 to 3 from 1 time 5 ⇒ answer 6 clock 0 ∷ [])
 
--- the bounds of a time
+-- [CF] the bounds of a time
 unfoldable pub caseF : Case
 caseF =
     case "F"
@@ -50,7 +50,7 @@ caseF =
     ∷ ledger 1 gets PROPOSE 7 to 3 from 2 time 60_001 ⇒ answer 7 clock 0
     ∷ [])
 
--- destinations that are none, that leave this ledger out, or that go beyond the group; in either kind of frame
+-- [CG] destinations that are none, that leave this ledger out, or that go beyond the group; in either kind of frame
 unfoldable pub caseG : Case
 caseG =
     case "G"
@@ -62,7 +62,7 @@ caseG =
     ∷ ledger 1 gets PROPOSE 7 to 4 from 2 time 5 ⇒ answer 5 clock 0
     ∷ [])
 
--- bytes that are no frame; and payment number 0 comes before its destinations
+-- [CH] bytes that are no frame; and payment number 0 comes before its destinations
 unfoldable pub caseH : Case
 caseH =
     case "H"
@@ -72,7 +72,7 @@ caseH =
     ∷ ledger 1 gets MULTICAST 0 to 0 ⇒ answer 4 clock 0
     ∷ [])
 
--- another time for the same payment, the same time for another payment, and a repeat
+-- [CI] another time for the same payment, the same time for another payment, and a repeat
 unfoldable pub caseI : Case
 caseI =
     case "I"
@@ -82,7 +82,7 @@ caseI =
     ∷ ledger 1 gets PROPOSE 7 to 3 from 2 time 5 ⇒ answer 9 clock 0
     ∷ [])
 
--- the clock follows a stamp to its end
+-- [CJ] the clock follows a stamp to its end
 unfoldable pub caseJ : Case
 caseJ =
     case "J"
@@ -93,7 +93,7 @@ caseJ =
     ∷ ledger 1 gets MULTICAST 9 to 3 ⇒ answer 11 clock 60_000
     ∷ [])
 
--- the drill's run of two ledgers
+-- [CL] the drill's run of two ledgers
 unfoldable pub caseL : Case
 caseL =
     case "L"

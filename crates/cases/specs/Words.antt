@@ -1,4 +1,4 @@
--- The paper's words for a frame, for a call and for what is expected of it, so that the table reads as the paper does.
+-- Words for a frame, for a call and for what is expected of it, so that the table reads as it would be told [CA to CJ, CL].
 -- Assumes nothing.
 use Prim.Native.Nat.{ℕ}
 use Prim.Native.Char.{Char}

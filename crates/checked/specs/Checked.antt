@@ -1,4 +1,4 @@
--- Document 01, "A state is sound when": the clauses that speak of the held payments together.
+-- What soundness asks of the held payments together [S2 to S8, S10, S11].
 -- Assumes nothing.
 use Prim.Native.Nat.{ℕ}
 use mathlib.Core.List.{List}
@@ -12,7 +12,7 @@ use Rattle.payment.specs.declared.Payment.{Payment}
 use Rattle.payment.specs.declared.Stamp.{Stamp}
 use Rattle.held.specs.Held.{at, limit}
 
--- f holds of the payment at a place, where the place is used: the used ones come first, as many as the count
+-- [S5] f holds of the payment at a place, where the place is in use: the count tells how many of the first places are
 abbrev pub heldAt : List Payment → ℕ → (Payment → Bool) → ℕ → Bool
 heldAt payments count f i = leb count i || f (at payments i)
 
@@ -28,16 +28,16 @@ pairedAt payments count f i = leb count i || every i (λ j. f (at payments i) (a
 abbrev pub heldPairs : List Payment → ℕ → (Payment → Payment → Bool) → Bool
 heldPairs payments count f = every limit (pairedAt payments count f)
 
--- the place is used, or all zero
+-- [S5] the place is in use, or all zero
 abbrev pub unusedAt : List Payment → ℕ → ℕ → Bool
 unusedAt payments count i = ltb i count || unused (at payments i)
 
--- every place from the count on is all zero (that those before it are used is said by their numbers, which are not 0)
+-- [S5] every place from the count on is all zero (that those before it are in use is said by their numbers, which are not 0 [S2])
 abbrev pub unusedAll : List Payment → ℕ → Bool
 unusedAll payments count = every limit (unusedAt payments count)
 
--- a payment may stand unposted beside a posted stamp: if it is stamped, the posted stamp is below its own; if it is proposed, the
--- posted time is below its own time; of any other nothing is asked
+-- [S10, S11] a payment may stand unposted beside a posted stamp: if it is stamped, its own stamp is higher; if it is proposed, its own
+-- time is later than the posted one; of any other nothing is asked
 unfoldable pub comesAfter : ℕ → Stamp → Payment → Bool
 comesAfter own stamp p =
     (not (isStamped p) || below stamp (stampOf p)) && (not (isProposed p) || ltb (stamp .time .0) (timeFrom p own))
@@ -46,6 +46,6 @@ comesAfter own stamp p =
 abbrev pub belowAll : List Payment → ℕ → Payment → Bool
 belowAll payments own p = not (isPosted p) || every limit (λ j. comesAfter own (stampOf p) (at payments j))
 
--- each posted stamp is below each stamped, unposted one, and its time is below each proposed payment's own time
+-- [S10, S11] so it is of each that is posted
 abbrev pub postedBelow : List Payment → ℕ → Bool
 postedBelow payments own = every limit (λ i. belowAll payments own (at payments i))

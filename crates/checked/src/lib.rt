@@ -1,4 +1,4 @@
-// What soundness asks of the held payments together.
+// What soundness asks of the held payments together [S2 to S8, S10, S11].
 use frame::LedgerNo;
 use frame::Time;
 use held::HELD;
@@ -72,7 +72,7 @@ pub fn held_pairs(payments: [Payment; HELD], count: u16) -> bool
     true
 }
 
-// Whether a posted stamp is below a stamped, unposted payment's, and its time below a proposed payment's own time.
+// [S10, S11] Whether a payment that is not posted comes after a posted stamp.
 fn comes_after(p: Payment, own: LedgerNo, stamp: Stamp) -> bool
     ensures { λ r. ⌜ r ≡ comesAfter (own .0) stamp p ⌝ }
 {

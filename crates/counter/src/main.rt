@@ -1,4 +1,4 @@
-// Runs case K of document 01 over the proved ledger, and cases A to C once more, by the code itself. All at ledger 1 of 2.
+// Runs case K [CK] over the proved ledger, and cases A to C [CA to CC] once more, by the code itself. All at ledger 1 of 2.
 mod calls;
 mod lines;
 

@@ -1,4 +1,4 @@
--- Case L of document 01: the whole output, as the definitions have it. (The program is run on the same records and compared.)
+-- Case L [CL]: the whole output, as the definitions have it. (The program is run on the same records and compared.)
 -- Assumes nothing.
 use Prim.Native.Nat.{ℕ}
 use mathlib.Core.Path.{_≡_, refl}

@@ -1,4 +1,4 @@
--- Document 01, "The drill": where a run over the records stands, and what it prints next.
+-- Where the drill stands in its input, and what it prints next [D6 to D9].
 -- Assumes nothing.
 use Rattle.records.specs.Records.{Outcome as Turned}
 use Prim.Native.Nat.{ℕ, zero, suc, _+_, _%_, _^_}
@@ -19,13 +19,13 @@ use Rattle.day.specs.declared.Done.{Done}
 abbrev pub counted : ℕ → ℕ
 counted n = n % 2 ^ 64
 
--- the number of step records
+-- [D9] the number of step records
 abbrev pub stepsIn : Did → ℕ
 stepsIn (SetUp n) = 0
 stepsIn (Step target answer postings) = 1
 stepsIn Stop = 0
 
--- whether a record ends the run
+-- [D8] whether a record ends the run
 abbrev pub ends : Did → Bool
 ends (SetUp n) = false
 ends (Step target answer postings) = false
@@ -49,7 +49,7 @@ outcome r buffer = record { day = r .day; written = r .written; buffer = buffer 
 abbrev pub turned : Day → List ℕ → Turned
 turned d bytes = turn (d .group) bytes (replicate limit 0)
 
--- the line that is printed of it
+-- [D6 to D8] the line that is printed of it
 abbrev pub lineFor : Day → List ℕ → List ℕ
 lineFor d bytes = printed (turned d bytes .did) (d .offset) (turned d bytes .list)
 
@@ -73,15 +73,15 @@ done d bytes buffer =
 unfoldable pub read : Day → List ℕ → List ℕ → Outcome
 read d bytes buffer = cond (d .over) (record { day = d; written = 0; buffer = buffer }) (done d bytes buffer)
 
--- at the end of input: nothing where a record ended the run; otherwise the last line is `END` and the number of step records
--- since the start of input
+-- [D9] at the end of input: nothing more where a record has ended the run; where none has, the line that tells how many steps
+-- there were
 abbrev pub lastLine : Day → List ℕ
 lastLine d = cond (d .over) [] (ending (d .steps))
 
 unfoldable pub close : Day → List ℕ → Wrote
 close d buffer = writing (lastLine d) buffer
 
--- all that is printed from a day on: the line of each of at most k records, one behind the other, and the last line
+-- [D1] all that is printed from a day on: the line of each of at most k records, one behind the other, and the last line
 unfoldable pub outputs : ℕ → Day → List ℕ → List ℕ
 outputs zero d bytes = lastLine d
 outputs (suc k) d bytes =

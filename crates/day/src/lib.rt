@@ -13,7 +13,7 @@ pub struct Day {
     pub group: Group,
     // Where the next record begins, counted in bytes from the start of input.
     pub offset: u64,
-    // Step records since the start of input.
+    // [D9] How many step records there were.
     pub steps: u64,
     // A record has ended the run.
     pub over: bool,

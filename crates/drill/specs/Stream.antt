@@ -1,4 +1,4 @@
--- Reading an input in parts, wherever it is split.
+-- Reading an input in parts, wherever it is split [D1].
 -- Assumes nothing.
 use Prim.Native.Nat.{ℕ, _≤_}
 use mathlib.Core.Path.{_≡_}

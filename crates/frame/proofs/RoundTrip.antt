@@ -1,4 +1,4 @@
--- Document 01, "Frames": reading a written frame gives back its values; an accepted frame written again gives its bytes.
+-- The two round trips: a frame that is written and then read [F4], and bytes that are read and then written [F5].
 -- Assumes nothing.
 use Prim.Native.Nat.{ℕ, suc, _^_, _≤_}
 use mathlib.Core.Path.{_≡_, refl, ap, ap₂, sym, _∙_}
@@ -79,12 +79,12 @@ unfolding body fitting
 typed-fitting (Multicast p d) h = simp (lt-ltb _ _ (h .0), lt-ltb _ _ (h .1))
 typed-fitting (Propose p d s t) h = simp (lt-ltb _ _ (h .0), lt-ltb _ _ (h .1), lt-ltb _ _ (h .2), lt-ltb _ _ (h .3))
 
--- reading a written frame gives back its values
+-- [F4] written, then read: the values come back
 pub written-read : (frame : Frame) (buffer : List ℕ) → Typed frame → writing frame buffer .answer ≡ 0
     → reading (take (writing frame buffer .written) (writing frame buffer .buffer)) ≡ told (Accepted frame)
 written-read frame buffer h w = values-again (valuesOf frame) buffer (typed-known frame) (typed-fitting frame h) w
 
--- an accepted frame written again gives its bytes
+-- [F5] read, then written: the bytes come back
 pub read-written : (bytes buffer : List ℕ) (frame : Frame) → Bytes bytes → told (Accepted frame) ≡ reading bytes
     → length bytes ≤ length buffer
     → writing frame buffer ≡ record { answer = 0; written = length bytes; buffer = bytes ++ drop (length bytes) buffer }

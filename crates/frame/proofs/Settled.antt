@@ -1,5 +1,5 @@
 -- No second outcome satisfies the promise of `read` or of `write`: the definitions `told` and `wrote`, by which the promises
--- give the paper's numbers, take no two outcomes for one.
+-- give the numbers of the rules, take no two outcomes for one.
 -- Assumes nothing.
 use Prim.Native.Nat.{ℕ}
 use mathlib.Core.Path.{_≡_, refl, ap, ap₂, sym, _∙_}

@@ -1,4 +1,4 @@
--- Numbers as bytes, high byte first.
+-- Numbers as bytes, the high byte in front [F1].
 -- Assumes nothing.
 use Prim.Native.Nat.{ℕ, zero, suc, _+_, _*_, _/_, _%_, _^_}
 use mathlib.Core.List.{List, [], _∷_, _++_}

@@ -1,4 +1,4 @@
--- Document 01, "Frames", and answer 3 of "When a ledger says no". The two round trips are theorems: proofs/RoundTrip.antt.
+-- Frames [F1 to F7], and which bytes are none [A3]. The two round trips [F4, F5] are theorems: proofs/RoundTrip.antt.
 -- Assumes nothing.
 use Prim.Native.Nat.{ℕ, _+_}
 use mathlib.Core.List.{List, [], _∷_, _++_}
@@ -13,16 +13,16 @@ use Rattle.frame.specs.declared.ReadAnswer.the-variants.{Accepted, NotAF
 use Rattle.frame.specs.declared.WriteAnswer.{WriteAnswer}
 use Rattle.frame.specs.declared.WriteAnswer.the-variants.{Written, TooShort}
 
--- a row of the table: a kind, and how many bytes each number of its body takes
+-- [F1] a row of the table: a kind, and how many bytes each number of its body takes
 pub record Row : Type 0 where
   pub kind : ℕ
   pub body : List ℕ
 
--- kind 1, MULTICAST: payment 4, destinations 1; total 6
+-- [F2] MULTICAST, 6 bytes: the kind, then the payment in 4 and the destinations in 1
 abbrev pub multicast : Row
 multicast = record { kind = 1; body = 4 ∷ 1 ∷ [] }
 
--- kind 2, PROPOSE: payment 4, destinations 1, source ledger 1, time 2; total 9
+-- [F3] PROPOSE, 9 bytes: the kind, then the payment in 4, the destinations in 1, the source in 1 and the time in 2
 abbrev pub propose : Row
 propose = record { kind = 2; body = 4 ∷ 1 ∷ 1 ∷ 2 ∷ [] }
 
@@ -34,7 +34,7 @@ pub record Values : Type 0 where
   pub kind : ℕ
   pub numbers : List ℕ
 
--- the kind and numbers of each case of a frame
+-- [P5] which kind and which numbers each case of a frame has
 abbrev pub valuesOf : Frame → Values
 valuesOf (Multicast payment destinations) =
     record { kind = multicast .kind; numbers = payment .0 ∷ destinations ∷ [] }
@@ -51,7 +51,7 @@ unfoldable pub body : List Row → ℕ → List ℕ
 body [] k = []
 body (r ∷ rs) k = cond (eqb k (r .kind)) (r .body) (body rs k)
 
--- one byte of kind, then a body whose length the kind fixes
+-- [F1] the kind takes one byte, and the rest is the body that goes with it
 abbrev pub totalIn : List Row → ℕ → ℕ
 totalIn rows k = 1 + sum (body rows k)
 
@@ -59,7 +59,7 @@ totalIn rows k = 1 + sum (body rows k)
 abbrev pub total : ℕ → ℕ
 total k = totalIn table k
 
--- the bytes of a frame, high byte first
+-- [F1] the bytes of a frame: its kind, then its numbers, each with the high byte in front
 abbrev pub frameBytes : Values → List ℕ
 frameBytes v = v .kind ∷ pack (body table (v .kind)) (v .numbers)
 
@@ -71,7 +71,7 @@ kindIn bytes = getD bytes 0 0
 abbrev pub frameValues : List ℕ → Values
 frameValues bytes = record { kind = kindIn bytes; numbers = unpack (body table (kindIn bytes)) (drop 1 bytes) }
 
--- answer 3: empty frame, unknown kind, or length not exactly the kind's
+-- [A3] no frame: no byte at all, a kind that is not in the table, or more or fewer bytes than the kind has
 unfoldable pub notAFrame : List ℕ → Bool
 notAFrame bytes =
     eqb (length bytes) 0 || (not (known table (kindIn bytes)) || not (eqb (length bytes) (total (kindIn bytes))))
@@ -85,12 +85,12 @@ pub record Told : Type 0 where
 abbrev pub nothing : Values
 nothing = record { kind = 0; numbers = [] }
 
--- reading alone refuses by answer 3 only; values are judged by the step
+-- [F6] reading has no other refusal than 3, and judges no value
 unfoldable pub reading : List ℕ → Told
 reading bytes =
     cond (notAFrame bytes) (record { answer = 3; frame = nothing }) (record { answer = 0; frame = frameValues bytes })
 
--- the number and values of each case of a reading
+-- [P5] which answer and which values each case of a reading stands for
 abbrev pub told : ReadAnswer → Told
 told (Accepted frame) = record { answer = 0; frame = valuesOf frame }
 told NotAFrame = record { answer = 3; frame = nothing }
@@ -101,7 +101,7 @@ pub record Wrote : Type 0 where
   pub written : ℕ
   pub buffer : List ℕ
 
--- writing alone refuses by answer 2 only, when the buffer is shorter than the kind's total, and then writes nothing
+-- [F7] a buffer that the frame does not fit into is answered 2 and left as it was; else the frame is put at its front
 unfoldable pub writingOf : Values → List ℕ → Wrote
 writingOf v buffer =
     cond (ltb (length buffer) (total (v .kind)))
@@ -112,7 +112,7 @@ writingOf v buffer =
 abbrev pub writing : Frame → List ℕ → Wrote
 writing frame buffer = writingOf (valuesOf frame) buffer
 
--- the number and count of each case of a writing, beside the buffer as it is left
+-- [P5] which answer and which count each case of a writing stands for, beside the buffer as it is left
 abbrev pub wrote : WriteAnswer → List ℕ → Wrote
 wrote (Written n) buffer = record { answer = 0; written = n; buffer = buffer }
 wrote TooShort buffer = record { answer = 2; written = 0; buffer = buffer }

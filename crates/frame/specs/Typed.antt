@@ -1,5 +1,5 @@
--- What the types of the code say of bytes and of a frame's numbers. The round trips ask for it; that every value of the code has it is
--- proved in crate `tied`.
+-- What the types of the code say of bytes and of a frame's numbers. The round trips [F4, F5] ask for it; that every value of the code
+-- has it is proved in crate `tied`.
 -- Assumes nothing.
 use Prim.Native.Nat.{ℕ, _<_, _^_}
 use mathlib.Core.List.{List}

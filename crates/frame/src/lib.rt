@@ -1,4 +1,4 @@
-// Frames: the three number types that cannot be mixed up, and the reading and writing of frames (document 01, "Frames").
+// Frames: the three number types that cannot be mixed up [N7, X2], and the reading and writing of frames [F1 to F7].
 ghost use mathlib.Core.Path.{_≡_};
 ghost use Prim.Native.Nat.{_+_, _≤_};
 ghost use lib.Seq.{sets};

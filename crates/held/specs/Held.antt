@@ -1,4 +1,4 @@
--- Document 01, "What a ledger keeps": the payments that a ledger holds, each at its place.
+-- The payments that a ledger holds, each at its place [K2, K3].
 -- Assumes nothing.
 use Prim.Native.Nat.{ℕ}
 use mathlib.Core.List.{List, []}
@@ -9,7 +9,7 @@ use Rattle.common.specs.Places.{any, first}
 use Rattle.payment.specs.Payments.{keeps}
 use Rattle.payment.specs.declared.Payment.{Payment}
 
--- a ledger holds at most 32 payments
+-- [K2] the most payments that a ledger holds
 abbrev pub limit : ℕ
 limit = 32
 
@@ -29,14 +29,14 @@ isNumber payments number i = eqb (at payments i .number .0) number
 abbrev pub placeOf : List Payment → ℕ → ℕ
 placeOf payments number = first limit (isNumber payments number)
 
--- a payment of this number, which is not 0, is held
+-- [A10] a payment of this number, which is not 0, is held
 abbrev pub holds : List Payment → ℕ → Bool
 holds payments number = ltb (placeOf payments number) limit
 
--- the payment at a place has another number, and ledger k's time t is kept for it, as a proposal or in a stamp
+-- [A8] the payment at a place has another number, and ledger k's time t is kept for it, proposed or in its stamp
 abbrev pub isForAnother : List Payment → ℕ → ℕ → ℕ → ℕ → Bool
 isForAnother payments number k t i = not (isNumber payments number i) && keeps (at payments i) k t
 
--- ledger k's time t is held for another payment than this number's
+-- [A8] ledger k's time t is kept for another payment than this number's
 abbrev pub heldForAnother : List Payment → ℕ → ℕ → ℕ → Bool
 heldForAnother payments number k t = any limit (isForAnother payments number k t)

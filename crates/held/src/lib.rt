@@ -6,7 +6,7 @@ use payment::Payment;
 ghost use mathlib.Core.Path.{_≡_};
 ghost use Rattle.held.specs.Held.{heldForAnother, placeOf};
 
-// How many payments a ledger holds at most: the one place that says so.
+// [K2] How many payments a ledger holds at most: the one place that says so.
 pub const HELD: usize = 32;
 
 // The place of the payment of a number; HELD where it is not held.

@@ -1,4 +1,4 @@
--- Document 01: "A state is sound when", clause by clause in its order. That there are as many places as the limit, eight times in
+-- When a state is sound, clause by clause [S1 to S11]. That there are as many places as the limit, eight times in
 -- each and one byte of heard ledgers is said by the types: crate soundness, Shaped.
 -- Assumes nothing.
 use mathlib.Core.Bool.{Bool, _&&_}
@@ -12,7 +12,7 @@ use Rattle.posting.specs.Posting.{noneFree}
 use Rattle.checked.specs.Checked.{heldAll, heldPairs, postedBelow, unusedAll}
 use Rattle.ledger.specs.declared.Ledger.{Ledger}
 
--- N, own number, clock and count are in range
+-- [S1] N, own number, clock and count lie within their bounds
 abbrev pub inRange : Ledger → Bool
 inRange l = isLedgerOf (l .group) (l .own .0) && (leb (l .clock .0) lastTime && leb (l .count) limit)
 
@@ -26,23 +26,23 @@ pairs l f = heldPairs (l .payments) (l .count) f
 
 unfoldable pub sound : Ledger → Bool
 sound l =
-    -- N, own number, clock and count are in range
+    -- [S1] bounds
     inRange l
-    -- held payments have different non-zero numbers and lawful destinations with this ledger
+    -- [S2] the numbers, which differ and are not 0; then [S3] the destinations
     && (pairs l numbersDiffer
     && (each l numberNotZero
     && (each l (lawful (l .group) (l .own .0))
-    -- heard ones are destinations, with times 1 to 60,000, all other times 0
+    -- [S4] who was heard, and the times
     && (each l heardRight
-    -- used places come first and are as many as the count, unused places all zero
+    -- [S5] the places not in use
     && (unusedAll (l .payments) (l .count)
-    -- one ledger's times, in proposals and in stamps, differ between payments
+    -- [S6] no time twice
     && (pairs l timesDiffer
-    -- own times and the times of stamps are not above the clock
+    -- [S7] nothing is ahead of the clock
     && (each l (notAboveClock (l .own .0) (l .clock .0))
-    -- waiting means own not heard and some other heard, proposed own heard and some other not, stamped or posted all heard
+    -- [S8] each phase fits who was heard
     && (each l (phaseRight (l .own .0))
-    -- no stamped payment is free to post
+    -- [S9] whatever is stamped and not posted is held back
     && (noneFree (l .payments) (l .own .0)
-    -- each posted stamp is below each stamped, unposted one, and its time is below each proposed payment's own time
+    -- [S10] what is posted is before what is stamped, and [S11] before what is proposed
     && postedBelow (l .payments) (l .own .0))))))))))

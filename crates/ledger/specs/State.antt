@@ -1,4 +1,4 @@
--- Document 01, "What a ledger keeps": the state, the all-zero state, and the fresh one.
+-- The state [K1], the fresh one [U1], and the one that is all zero [U2].
 -- Assumes nothing.
 use Prim.Native.Nat.{ℕ}
 use mathlib.Core.Bool.{cond}
@@ -10,11 +10,11 @@ use Rattle.held.specs.Held.{limit}
 use Rattle.ledger.specs.declared.Ledger.{Ledger}
 use Rattle.ledger.specs.declared.SetUp.{SetUp}
 
--- a place that is all zero
+-- [S5] a place not in use
 abbrev pub unusedPlace : Payment
 unusedPlace = newPayment 0 0
 
--- a fresh ledger holds nothing, and its clock is 0; that of number 0 of group 0 is the all-zero state
+-- [U1] a fresh ledger holds nothing, and its clock is 0; that of number 0 of group 0 is the all-zero state
 abbrev pub fresh : ℕ → ℕ → Ledger
 fresh group own =
     record {
@@ -25,7 +25,7 @@ fresh group own =
       payments = replicate limit unusedPlace;
     }
 
--- set-up refused, by answer 1, returns the all-zero state; any other hands back the fresh state of ledger `own` of N
+-- [U1, U2] a ledger of the group is set up fresh; any other number is answered 1, and the state is all zero
 unfoldable pub setUp : ℕ → ℕ → SetUp
 setUp group own =
     cond (isLedgerOf group own) (record { state = fresh group own; answer = 0 }) (record { state = fresh 0 0; answer = 1 })

@@ -1,4 +1,4 @@
--- Document 01, "The step": rules 1 to 4, and what a call hands back.
+-- The step: rules 1 to 4 [R11 to R44], and what a call hands back [R2].
 -- Assumes nothing.
 use Prim.Native.Nat.{ℕ, _+_, _<_, _≤_, max}
 use mathlib.Core.Path.{_≡_}
@@ -22,7 +22,7 @@ use Rattle.ledger.specs.declared.Ledger.{Ledger}
 use Rattle.ledger.specs.declared.PostedLedger.{PostedLedger}
 use Rattle.ledger.specs.declared.Step.{Step}
 
--- take the payment in if it isn't held: the payment, its place, and the count
+-- [R11, R21] the frame's payment, held or new; its place [K3]; and how many are held with it
 abbrev pub paymentFor : Ledger → Incoming → Payment
 paymentFor l f = paymentIn (l .payments) f
 
@@ -43,23 +43,23 @@ keeping l f clock p =
       payments = set (l .payments) (placeFor l f) p;
     }
 
--- the clock rises by 1 and is the own time
+-- [R12] the next own time: one more than the clock
 abbrev pub newOwnTime : Ledger → Time
 newOwnTime l = record { 0 = l .clock .0 + 1 }
 
--- rule 1, MULTICAST: take the payment in if it isn't held; the clock rises by 1 and is the own time
+-- [R11, R12] rule 1: the payment of a MULTICAST is kept, proposed, with the next own time, and the clock shows that time
 unfoldable pub multicastRule : Ledger → Incoming → Ledger
 multicastRule l f = keeping l f (newOwnTime l) (inPhase proposed (hear (paymentFor l f) (l .own .0) (newOwnTime l)))
 
--- rule 2, PROPOSE: take the payment in as waiting if it isn't held, and keep the source's time; the clock is not touched
+-- [R21, R22] rule 2: the payment of a PROPOSE is kept with the time of its source, and the clock stays where it is
 unfoldable pub proposeRule : Ledger → Incoming → Ledger
 proposeRule l f = keeping l f (l .clock) (hear (paymentFor l f) (f .source .0) (f .time))
 
 abbrev pub afterHearing : Ledger → Incoming → Ledger
 afterHearing l f = cond (isPropose f) (proposeRule l f) (multicastRule l f)
 
--- rule 3: once every destination of the payment is heard, it is stamped with the greatest proposal, and the clock becomes the
--- larger of itself and the stamp's time (a payment stamped before never comes here: no frame of it is taken)
+-- [R31, R32] rule 3: a payment that has heard all its destinations is stamped, and a clock that is behind its stamp is put forward
+-- (a payment stamped before never comes here: no frame of it is taken)
 unfoldable pub stampRule : Ledger → ℕ → Ledger
 stampRule l i =
     let p = at (l .payments) i in
@@ -77,7 +77,7 @@ stampRule l i =
 abbrev pub afterStamping : Ledger → Incoming → Ledger
 afterStamping l f = stampRule (afterHearing l f) (placeFor l f)
 
--- rule 4: then post; what that leaves: the ledger, the number of postings, and the whole posting list
+-- [R41] rule 4 comes last; what it leaves: the ledger, the number of postings, and the whole posting list
 pub record AfterPosting : Type 0 where
   pub state : Ledger
   pub count : ℕ
@@ -95,17 +95,17 @@ postRule l list =
 abbrev pub left : PostedLedger → List ℕ → AfterPosting
 left r list = record { state = r .state; count = r .count; list = list }
 
--- recipients are the other destinations; a PROPOSE has none
+-- [R13] all destinations but this ledger; [R22] of a PROPOSE nobody
 abbrev pub recipientsOf : Ledger → Incoming → ℕ
 recipientsOf l f = cond (isPropose f) 0 (without (f .destinations) (l .own .0))
 
--- the first 9 bytes of the outgoing buffer become this ledger's PROPOSE; if there are no recipients, no byte is written
+-- [R14] this ledger's PROPOSE at the front of the outgoing buffer; where nobody is to receive it, the buffer as it was [R4]
 abbrev pub sent : Ledger → Incoming → List ℕ → List ℕ
 sent l f outgoing =
     cond (eqb (recipientsOf l f) 0) outgoing
     (writing (Propose (f .payment) (f .destinations) (l .own) (newOwnTime l)) outgoing .buffer)
 
--- all that a call hands back, and the two buffers whole
+-- [R2] all that a call hands back, and the two buffers whole
 pub record Outcome : Type 0 where
   pub state : Ledger
   pub answer : ℕ
@@ -128,11 +128,11 @@ outcome r outgoing list =
       list = list;
     }
 
--- what a refusal hands back: the state unchanged, no recipients, counts 0
+-- [T3] what a refusal hands back: the same state, nobody to send to, no copies and no postings
 abbrev pub refusing : Ledger → ℕ → Step
 refusing l answer = record { state = l; answer = answer; recipients = 0; copies = 0; postings = 0 }
 
--- and it leaves both buffers as they were
+-- [T3] and it leaves both buffers as they were
 abbrev pub refused : Ledger → ℕ → List ℕ → List ℕ → Outcome
 refused l answer outgoing list = outcome (refusing l answer) outgoing list
 
@@ -156,7 +156,7 @@ keptAt l place held p =
       payments = set (l .payments) place p;
     }
 
--- a frame that is taken: rules 1 to 4
+-- [A0] a frame that is taken: rules 1 to 4
 abbrev pub taken : Ledger → Incoming → List ℕ → List ℕ → Outcome
 taken l f outgoing list =
     let after = postRule (afterStamping l f) list in
@@ -170,7 +170,7 @@ taken l f outgoing list =
       list = after .list;
     }
 
--- the step: taken where no row of the whole table applies, and else the answer of the first that does
+-- [T1, T3] the step: taken where no row of the whole table applies, and else refused by the first that does
 unfoldable pub step : Ledger → List ℕ → List ℕ → List ℕ → Outcome
 step l frame outgoing list =
     let answer = answerTo l frame outgoing list in

@@ -11,7 +11,7 @@ ghost use mathlib.Core.Path.{_≡_};
 ghost use Rattle.ledger.specs.State.{fresh, setUp};
 ghost use Rattle.ledger.specs.Step.{outcome, refusing, step};
 
-// What a ledger keeps.
+// [K1] What a ledger keeps.
 pub struct Ledger {
     // N: the ledgers are 1 to this.
     pub group: u8,
@@ -34,20 +34,20 @@ struct PostedLedger {
     count: usize,
 }
 
-// What a step hands back.
+// [R2] What a step hands back.
 pub struct Step {
     pub state: Ledger,
     // The number in the table: 0 taken, 1 to 11 refused or a repeat.
     pub answer: u8,
     // The ledgers that the outgoing frame goes to, as a byte.
     pub recipients: u8,
-    // How many recipients there are.
+    // [R3] One for each recipient.
     pub copies: u32,
     // How many numbers were written into the posting list.
     pub postings: usize,
 }
 
-// The all-zero state, which is not sound.
+// [U2] The state that is all zero, and not sound.
 pub fn nothing() -> Ledger
     ensures { λ r. ⌜ r ≡ fresh 0 0 ⌝ }
 {
@@ -61,7 +61,7 @@ pub fn nothing() -> Ledger
 }
 
 impl Ledger {
-    // Set-up of ledger `own` of a group, whatever the state was before.
+    // [U1, U2, X4] Set-up of ledger `own` of a group, whatever the state was before.
     pub fn set_up(mut self, group: u8, own: LedgerNo) -> SetUp
         ensures { λ r. ⌜ r ≡ setUp group (own .0) ⌝ }
     {
@@ -80,7 +80,7 @@ impl Ledger {
         }
     }
 
-    // The state unchanged, no recipients, counts 0.
+    // [T3] A refusal: the same state, nobody to send to, nothing posted.
     fn refuse(mut self, answer: u8) -> Step
         ensures { λ r. ⌜ r ≡ refusing self answer ⌝ }
     {
@@ -93,7 +93,7 @@ impl Ledger {
         }
     }
 
-    // The step for one incoming frame.
+    // [R1, T1, X4] The step for one incoming frame.
     pub fn step(mut self, frame: &[u8], outgoing: &mut [u8], postings: &mut [u32]) -> Step
         ensures { λ r. ⌜ outcome r (now (outgoing .exit)) (now (postings .exit)) ≡ step self (now (frame .entry)) (now (outgoing .entry)) (now (postings .entry)) ⌝ }
     {

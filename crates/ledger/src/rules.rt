@@ -1,4 +1,4 @@
-// Rules 1 to 4.
+// Rules 1 to 4 [R11 to R44].
 use crate::Ledger;
 use crate::PostedLedger;
 use crate::Step;
@@ -31,7 +31,7 @@ impl Ledger {
         self
     }
 
-    // Rule 1: the clock rises by 1 and is the own time.
+    // Rule 1 [R11, R12]: the payment is proposed, at the next time of the clock.
     fn multicast(mut self, judged: Judged) -> Ledger
         requires { ⌜ MayTake self judged ⌝ }
         ensures { λ r. ⌜ r ≡ multicastRule self (judged .frame) ⌝ }
@@ -44,7 +44,7 @@ impl Ledger {
         self.keep(judged.place, judged.held, heard)
     }
 
-    // Rule 2: the source's time is kept.
+    // Rule 2 [R21, R22]: the source's time is kept.
     fn propose(mut self, judged: Judged) -> Ledger
         requires { ⌜ MayTake self judged ⌝ }
         ensures { λ r. ⌜ r ≡ proposeRule self (judged .frame) ⌝ }
@@ -54,7 +54,7 @@ impl Ledger {
         self.keep(judged.place, judged.held, p.hear(f.source, f.time))
     }
 
-    // Rule 3: once every destination is heard, the payment is stamped, and the clock becomes the larger of itself and the stamp's time.
+    // Rule 3 [R31, R32]: a payment that has heard all is stamped, and a clock that is behind its stamp is put forward.
     fn stamp(mut self, place: usize) -> Ledger
         requires { ⌜ place < limit ⌝ }
         ensures { λ r. ⌜ r ≡ stampRule self place ⌝ }
@@ -69,7 +69,7 @@ impl Ledger {
         self
     }
 
-    // Rule 4: all that are free are posted.
+    // Rule 4 [R41 to R44]: all that are free are posted.
     fn post(mut self, list: &mut [u32]) -> PostedLedger
         requires { ⌜ limit ≤ length (now list) ⌝ }
         ensures { λ r. ⌜ left r (now (list .exit)) ≡ postRule self (now (list .entry)) ⌝ }
@@ -84,7 +84,7 @@ impl Ledger {
         }
     }
 
-    // The other destinations; a PROPOSE has no recipients.
+    // [R13, R22] The other destinations; a PROPOSE has no recipients.
     fn recipients(self, f: Incoming) -> u8
         ensures { λ r. ⌜ r ≡ recipientsOf self f ⌝ }
     {
@@ -94,7 +94,7 @@ impl Ledger {
         ledgers::others(f.destinations, self.own)
     }
 
-    // Writes this ledger's PROPOSE, where there are recipients.
+    // [R14] Writes this ledger's PROPOSE, where there are recipients.
     fn send(self, f: Incoming, recipients: u8, outgoing: &mut [u8])
         requires { ⌜ (recipients ≡ recipientsOf self f) × (self .clock .0 ≤ lastTime) ⌝ }
         ensures { λ r. ⌜ now (outgoing .exit) ≡ sent self f (now (outgoing .entry)) ⌝ }

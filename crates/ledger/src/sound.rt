@@ -1,4 +1,4 @@
-// Whether a ledger's state is sound.
+// Whether a ledger's state is sound [S1 to S11].
 use crate::Ledger;
 use held::HELD;
 ghost use mathlib.Core.Path.{_≡_};

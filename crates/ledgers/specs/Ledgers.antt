@@ -1,4 +1,4 @@
--- Ledgers are 1 to N, N from 1 to 8. Destinations are one byte, in which ledger k is the bit of value 2^(k-1).
+-- Which ledgers there are [N1], and the bytes that name some of them [N6].
 -- Assumes nothing.
 use Prim.Native.Nat.{ℕ, zero, suc, _^_}
 use mathlib.Core.Bool.{Bool, false, not, _&&_, _||_}
@@ -8,15 +8,15 @@ use Rattle.common.specs.Bits.{bit, bits, withBit, withoutBit}
 abbrev pub mostLedgers : ℕ
 mostLedgers = 8
 
--- N from 1 to 8
+-- [N1] a group can have so many ledgers
 abbrev pub isGroup : ℕ → Bool
 isGroup n = leb 1 n && leb n mostLedgers
 
--- N from 1 to 8, and a number from 1 to N
+-- [N1] a group can have so many ledgers, and k is the number of one of them
 abbrev pub isLedgerOf : ℕ → ℕ → Bool
 isLedgerOf n k = isGroup n && (leb 1 k && leb k n)
 
--- ledger k is among the ledgers of a byte
+-- [N6] ledger k is among the ledgers of a byte
 unfoldable pub has : ℕ → ℕ → Bool
 has ledgers zero = false
 has ledgers (suc k) = bit ledgers k
@@ -31,11 +31,11 @@ unfoldable pub without : ℕ → ℕ → ℕ
 without ledgers zero = ledgers
 without ledgers (suc k) = withoutBit ledgers k
 
--- how many ledgers there are in a byte
+-- [R3] how many ledgers there are in a byte
 abbrev pub howMany : ℕ → ℕ
 howMany ledgers = bits ledgers
 
--- what the destinations of a payment at ledger `own` of N may not be: empty, beyond N, or without this ledger
+-- [A5] destinations that ledger `own` of a group refuses: they name nobody, name one past N, or leave this ledger out
 unfoldable pub unlawful : ℕ → ℕ → ℕ → Bool
 unlawful group own destinations =
     eqb destinations 0 || (leb (2 ^ group) destinations || not (has destinations own))

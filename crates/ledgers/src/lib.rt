@@ -1,4 +1,4 @@
-// Ledgers: the numbers of a group, and the bytes that name some of its ledgers.
+// Ledgers: the numbers of a group [N1], and the bytes that name some of its ledgers [N6].
 use frame::LedgerNo;
 ghost use mathlib.Core.Path.{_≡_};
 ghost use Rattle.ledgers.specs.Ledgers.{has, howMany, isGroup, isLedgerOf, unlawful, without};
@@ -48,14 +48,14 @@ pub fn others(ledgers: u8, ledger: LedgerNo) -> u8
     ledgers & !(1 << (k - 1))
 }
 
-// How many ledgers there are in a byte.
+// [R3, X1] How many ledgers there are in a byte.
 pub fn how_many(ledgers: u8) -> u32
     ensures { λ r. ⌜ r ≡ howMany ledgers ⌝ }
 {
     u8::count_ones(ledgers)
 }
 
-// Whether destinations are empty, beyond the group, or without this ledger.
+// [A5] Whether destinations name nobody, name one beyond the group, or leave this ledger out.
 pub fn is_unlawful(group: u8, own: LedgerNo, destinations: u8) -> bool
     ensures { λ r. ⌜ r ≡ unlawful group (own .0) destinations ⌝ }
 {

@@ -1,4 +1,4 @@
--- Document 01, "The drill": numbers are decimal.
+-- Numbers as they are printed, in decimal [D10].
 -- Assumes nothing.
 use Prim.Native.Nat.{ℕ, zero, suc, _+_, _*_, _-_, _/_, _%_}
 use mathlib.Core.List.{List, [], _∷_, _++_}

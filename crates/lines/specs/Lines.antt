@@ -1,4 +1,4 @@
--- Document 01, "The drill": what is printed, as bytes.
+-- What the drill prints [D6 to D10], as bytes.
 -- Assumes nothing.
 use Prim.Native.Nat.{ℕ, min}
 use mathlib.Core.List.{List, [], _∷_, _++_, map}
@@ -19,7 +19,7 @@ stop = 83 ∷ 84 ∷ 79 ∷ 80 ∷ []
 abbrev pub end : List ℕ
 end = 69 ∷ 78 ∷ 68 ∷ []
 
--- a letter with a number: `L` with the target, `A` with the answer, `P` with a payment posted
+-- [D7] a letter with a number behind it: the target, the answer, a posted payment
 abbrev pub target : ℕ → List ℕ
 target n = 76 ∷ decimal n
 
@@ -29,24 +29,24 @@ answer n = 65 ∷ decimal n
 abbrev pub posting : ℕ → List ℕ
 posting n = 80 ∷ decimal n
 
--- items, each after one space
+-- [D10] items, each after one space
 unfoldable pub spaced : List (List ℕ) → List ℕ
 spaced [] = []
 spaced (item ∷ items) = 32 ∷ (item ++ spaced items)
 
--- items on a line are parted by one space; each line ends with byte 10
+-- [D10] a line: its items with one space between them, and byte 10 at its end
 abbrev pub lineOf : List ℕ → List (List ℕ) → List ℕ
 lineOf first others = first ++ (spaced others ++ (10 ∷ []))
 
--- what is printed of a record: of a set-up `GROUP` and N; of a step `L` with the target, `A` with the answer, then `P` with
--- each payment posted, in order (a step posts no more than the limit: posting/PostLaws.numbers-few); of one that ends the run `STOP` and the offset of its first byte
+-- [D6] of a set-up, the group; [D7] of a step, the target, the answer, and the posted payments, the first posted first (no step posts
+-- more than the limit: posting/PostLaws.numbers-few); [D8] of a record that ends the run, where it begins
 abbrev pub printed : Did → ℕ → List ℕ → List ℕ
 printed (SetUp n) offset list = lineOf group (decimal n ∷ [])
 printed (Step ledger given postings) offset list =
     lineOf (target ledger) (answer given ∷ map posting (take (min postings limit) list))
 printed Stop offset list = lineOf stop (decimal offset ∷ [])
 
--- otherwise the last line is `END` and the number of step records since the start of input
+-- [D9] the last line of an input that nothing has stopped: how many step records it had
 abbrev pub ending : ℕ → List ℕ
 ending steps = lineOf end (decimal steps ∷ [])
 

@@ -1,4 +1,4 @@
-// The lines that the drill prints (document 01, "The drill").
+// The lines that the drill prints [D6 to D10].
 use held::HELD;
 use records::Did;
 ghost use mathlib.Core.Path.{_≡_};

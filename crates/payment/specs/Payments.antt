@@ -1,4 +1,4 @@
--- Document 01, "What a ledger keeps": what is kept for each payment.
+-- What is kept for each payment [K4 to K6], and which numbers are times [N3].
 -- Assumes nothing.
 use Prim.Native.Nat.{ℕ, zero, suc}
 use mathlib.Core.List.{List}
@@ -11,7 +11,7 @@ use Rattle.payment.specs.Stamps.{below}
 use Rattle.payment.specs.declared.Stamp.{Stamp}
 use Rattle.payment.specs.declared.Payment.{Payment}
 
--- times run from 1 to 60,000
+-- [N3] the last time
 abbrev pub lastTime : ℕ
 lastTime = 60000
 
@@ -24,38 +24,38 @@ noTime = record { 0 = 0 }
 abbrev pub noStamp : Stamp
 noStamp = record { time = noTime; ledger = record { 0 = 0 } }
 
--- the time kept from ledger k; 0, which is no time, where there is no such ledger
+-- [K4] the time kept from ledger k; 0, which is no time, where there is no such ledger
 unfoldable pub timeIn : List Time → ℕ → Time
 timeIn times zero = noTime
 timeIn times (suc k) = cond (ltb k mostLedgers) (getD times k noTime) noTime
 
--- the proposal of ledger k, as a stamp: its time with its number
+-- [N4] the proposal of ledger k, as a stamp: its time with its number
 abbrev pub proposal : List Time → ℕ → Stamp
 proposal times k = record { time = timeIn times k; ledger = record { 0 = k } }
 
--- the greatest proposal of those heard from the ledgers 1 to k; none, all zero, where none was heard
+-- [R31] the highest proposal [N5] of those heard from the ledgers 1 to k; none, all zero, where none was heard
 unfoldable pub greatest : List Time → ℕ → ℕ → Stamp
 greatest times heard zero = noStamp
 greatest times heard (suc k) =
     let best = greatest times heard k in
     cond (has heard (suc k) && below best (proposal times (suc k))) (proposal times (suc k)) best
 
--- every destination's proposed time is kept, with which ones were heard
+-- [K4] whether ledger k was heard, and the time that it proposed
 abbrev pub heardFrom : Payment → ℕ → Bool
 heardFrom p k = has (p .heard) k
 
 abbrev pub timeFrom : Payment → ℕ → ℕ
 timeFrom p k = timeIn (p .times) k .0
 
--- the greatest proposal heard: the stamp, once the payment is stamped (it is not stored beside the times, which then never change)
+-- [R31] the highest proposal heard: the stamp, once there is one (it is not stored beside the times, which then never change)
 abbrev pub stampOf : Payment → Stamp
 stampOf p = greatest (p .times) (p .heard) mostLedgers
 
--- every destination is heard: no more can be, since heard ones are destinations
+-- [R31] all destinations are heard: no more can be, since only destinations are [S4]
 abbrev pub allHeard : Payment → Bool
 allHeard p = eqb (p .heard) (p .destinations)
 
--- phases: waiting (0, as an unused place counts as waiting), proposed, stamped, posted
+-- [K5] the phases; waiting is 0, since a place not in use is all zero and counts as waiting [K6]
 abbrev pub waiting : ℕ
 waiting = 0
 
@@ -91,11 +91,11 @@ stampIsOf p k = hasStamp p && (leb 1 k && eqb (stampOf p .ledger .0) k)
 abbrev pub hasProposal : Payment → ℕ → ℕ → Bool
 hasProposal p k t = heardFrom p k && eqb (timeFrom p k) t
 
--- ledger k's time t is held for the payment, as a proposal or in a stamp (a stamp is always one of the proposals)
+-- [A8, S6] ledger k's time t is kept for the payment, proposed or in its stamp (which is always one of the proposals)
 abbrev pub keeps : Payment → ℕ → ℕ → Bool
 keeps p k t = hasProposal p k t || (stampIsOf p k && eqb (stampOf p .time .0) t)
 
--- the payment with ledger k's time kept
+-- [K4] the payment with ledger k's time kept
 unfoldable pub hear : Payment → ℕ → Time → Payment
 hear p zero t = p
 hear p (suc k) t =
@@ -109,7 +109,7 @@ hear p (suc k) t =
     })
     p
 
--- a payment that is taken in: nothing heard, waiting
+-- [R11, R21] a payment that comes in: nothing is heard, and it is waiting
 abbrev pub newPayment : ℕ → ℕ → Payment
 newPayment number destinations =
     record {
@@ -120,7 +120,7 @@ newPayment number destinations =
       phase = waiting;
     }
 
--- the payment in another phase
+-- [K5] the payment in another phase
 abbrev pub inPhase : ℕ → Payment → Payment
 inPhase phase p =
     record { number = p .number; destinations = p .destinations; heard = p .heard; times = p .times; phase = phase }

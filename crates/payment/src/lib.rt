@@ -1,4 +1,4 @@
-// One payment's record: its destinations, every destination's proposed time with which ones were heard, and its phase.
+// One payment's record [K4, K5]: its destinations, the times they proposed, which of them were heard, and its phase.
 use frame::LedgerNo;
 use frame::PaymentNo;
 use frame::Time;
@@ -16,7 +16,7 @@ pub const STAMPED: u8 = 2;
 
 pub const POSTED: u8 = 3;
 
-// Times run from 1 to this.
+// [N3] The last time.
 pub const LAST_TIME: u16 = 60000;
 
 pub struct Stamp {
@@ -27,7 +27,7 @@ pub struct Stamp {
 // What is kept for one payment.
 pub struct Payment {
     pub number: PaymentNo,
-    // Ledger k is the bit of value 2^(k-1).
+    // [N6] One bit for each ledger.
     pub destinations: u8,
     // The destinations whose time is kept, with the same bits.
     pub heard: u8,
@@ -69,7 +69,7 @@ pub fn time_in(times: [Time; 8], ledger: LedgerNo) -> Time
     times[(k - 1) as usize]
 }
 
-// Stamp picking: the greatest of the proposals heard.
+// [R31, X3] Stamp picking: the greatest of the proposals heard.
 pub fn pick(times: [Time; 8], heard: u8) -> Stamp
     ensures { λ r. ⌜ r ≡ greatest times heard 8 ⌝ }
 {

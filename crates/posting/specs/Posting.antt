@@ -1,4 +1,4 @@
--- Document 01, rule 4: which stamped payments are posted, and in which order.
+-- Rule 4: which stamped payments are posted, and in which order [R41 to R44].
 -- Assumes nothing.
 use Prim.Native.Nat.{ℕ}
 use mathlib.Core.List.{List, map, _++_}
@@ -14,37 +14,37 @@ use Rattle.payment.specs.declared.Stamp.{Stamp}
 use Rattle.held.specs.Held.{at, limit}
 use Rattle.posting.specs.declared.Posted.{Posted}
 
--- a payment still proposed here holds back while its own time is less than or equal to the stamp's time
+-- [R42] a payment holds a stamp back: it is in phase proposed, and its own time is not later than the time in the stamp
 unfoldable pub holdsBack : ℕ → Stamp → Payment → Bool
 holdsBack own stamp p = isProposed p && leb (timeFrom p own) (stamp .time .0)
 
--- a stamp is held back while any payment holds it back
+-- [R42] a stamp is held back while there is a payment that does it
 abbrev pub heldBack : List Payment → ℕ → Stamp → Bool
 heldBack payments own stamp = any limit (λ j. holdsBack own stamp (at payments j))
 
--- free to post: stamped, not posted, and not held back
+-- [R43] free to post: stamped, not posted, and not held back
 unfoldable pub isFree : List Payment → ℕ → ℕ → Bool
 isFree payments own i =
     isStamped (at payments i) && not (heldBack payments own (stampOf (at payments i)))
 
--- soundness: no stamped payment is free to post
+-- [S9] whatever is stamped and not posted is held back
 abbrev pub noneFree : List Payment → ℕ → Bool
 noneFree payments own = not (any limit (isFree payments own))
 
--- in rising stamp order
+-- [N5] the order of posting: by stamp
 abbrev pub before : List Payment → ℕ → ℕ → Bool
 before payments i j = below (stampOf (at payments i)) (stampOf (at payments j))
 
--- the places of all that are free, in rising stamp order
+-- [R43] the places of all that are free, the lowest stamp first
 abbrev pub toPost : List Payment → ℕ → List ℕ
 toPost payments own = sorted (before payments) (isFree payments own) limit
 
--- all that are free are posted; every other payment is as it was
+-- [R43] all that are free are posted; every other payment is as it was
 unfoldable pub afterPosting : List Payment → ℕ → List Payment
 afterPosting payments own =
     listed limit (λ i. cond (isFree payments own i) (inPhase posted (at payments i)) (at payments i))
 
--- their numbers, in the order of posting
+-- [R44] their numbers, in the order of posting
 abbrev pub numbers : List Payment → ℕ → List ℕ
 numbers payments own = map (λ i. at payments i .number .0) (toPost payments own)
 
@@ -57,7 +57,7 @@ pub record Posting : Type 0 where
 abbrev pub left : Posted → List ℕ → Posting
 left r list = record { payments = r .payments; count = r .count; list = list }
 
--- the numbers are written from the list's first place; places beyond stay as they were
+-- [R44, R4] the numbers are put at the front of the list, and the rest of it stays
 abbrev pub written : List Payment → ℕ → List ℕ → Posting
 written payments own list =
     let ns = numbers payments own in

@@ -1,4 +1,4 @@
-// Posting: which stamped payments are free, and posting them in rising stamp order.
+// Posting: which stamped payments are free, and posting them by stamp [R41 to R44].
 use frame::LedgerNo;
 use frame::Time;
 use held::HELD;
@@ -9,7 +9,7 @@ ghost use Rattle.common.specs.Order.{least};
 ghost use Rattle.held.specs.Held.{limit};
 ghost use Rattle.posting.specs.Posting.{before, holdsBack, isFree, left, noneFree, posting};
 
-// Whether a payment is still proposed with an own time that holds a stamp back.
+// [R42] Whether a payment is still proposed with an own time that holds a stamp back.
 fn holds_back(p: Payment, own: LedgerNo, stamp: Stamp) -> bool
     ensures { λ r. ⌜ r ≡ holdsBack (own .0) stamp p ⌝ }
 {
@@ -17,7 +17,7 @@ fn holds_back(p: Payment, own: LedgerNo, stamp: Stamp) -> bool
     (p.phase == payment::PROPOSED) & (payment::time_in(times, own).0 <= stamp.time.0)
 }
 
-// The place of the stamped payment of the least stamp that no proposed payment holds back; HELD where there is none.
+// [R43, X5] The place of the stamped payment of the least stamp that no proposed payment holds back; HELD where there is none.
 fn next(payments: [Payment; HELD], own: LedgerNo) -> usize
     ensures { λ r. ⌜ r ≡ least limit (before payments) (isFree payments (own .0)) limit ⌝ }
 {
@@ -49,7 +49,7 @@ fn next(payments: [Payment; HELD], own: LedgerNo) -> usize
     best
 }
 
-// Whether no stamped payment is free to post.
+// [S9] Whether no stamped payment is free to post.
 pub fn none_free(payments: [Payment; HELD], own: LedgerNo) -> bool
     ensures { λ r. ⌜ r ≡ noneFree payments (own .0) ⌝ }
 {
@@ -61,7 +61,7 @@ pub struct Posted {
     pub count: usize,
 }
 
-// Posts all that are free, in rising stamp order, their numbers from the list's first place.
+// [R43, R44] Posts all that are free, the lowest stamp first, and puts their numbers at the front of the list.
 pub fn post(mut payments: [Payment; HELD], own: LedgerNo, list: &mut [u32]) -> Posted
     ensures { λ r. ⌜ left r (now (list .exit)) ≡ posting payments (own .0) (now (list .entry)) ⌝ }
 {

@@ -1,4 +1,4 @@
--- Document 01, "The drill": the records, and what each does to the ledgers.
+-- The drill's records [D1 to D5], and what each does to the ledgers.
 -- Assumes nothing.
 use Prim.Native.Nat.{ℕ, suc, _-_}
 use mathlib.Core.List.{List, [], _∷_}
@@ -17,15 +17,15 @@ use Rattle.records.specs.declared.Did.the-variants.{SetUp, Step, Stop}
 use Rattle.records.specs.declared.Group.{Group}
 use Rattle.records.specs.declared.Turn.{Turn}
 
--- kind 16, body N
+-- [D2] kind 16: the byte behind it is N
 abbrev pub setUpRecord : Row
 setUpRecord = record { kind = 16; body = 1 ∷ [] }
 
--- kind 17, body target ledger and a MULTICAST's 5 body bytes
+-- [D3] kind 17: a target, and the body of a MULTICAST
 abbrev pub multicastRecord : Row
 multicastRecord = record { kind = 17; body = 1 ∷ multicast .body }
 
--- kind 18, target and a PROPOSE's 8
+-- [D4] kind 18: a target, and the body of a PROPOSE
 abbrev pub proposeRecord : Row
 proposeRecord = record { kind = 18; body = 1 ∷ propose .body }
 
@@ -40,7 +40,7 @@ recordTotal kind = cond (known records kind) (totalIn records kind) 0
 abbrev pub secondIn : List ℕ → ℕ
 secondIn bytes = getD bytes 1 0
 
--- a record with an unknown kind, cut short, a step before any set-up, or with bad N or target (outside 1 to N) ends the run; the
+-- [D8] the run is over at a record of another kind, with bytes missing, with an N that is no group, or with a target that is not in it; the
 -- group's own N, here n, is 0 before any set-up (no byte at all is a record cut before its kind; the program asks only where there is
 -- a byte)
 unfoldable pub stops : ℕ → List ℕ → Bool
@@ -49,7 +49,7 @@ stops n bytes =
     || (ltb (length bytes) (recordTotal (kindIn bytes))
     || cond (eqb (kindIn bytes) (setUpRecord .kind)) (not (isGroup (secondIn bytes))) (not (isLedgerOf n (secondIn bytes))))
 
--- N ledgers afresh; a place beyond N, whose set-up is refused, is all zero
+-- [D2] N ledgers afresh; a place beyond N, whose set-up is refused, is all zero
 unfoldable pub started : ℕ → Group
 started n = record { count = n; ledgers = listed mostLedgers (λ i. setUp n (suc i) .state) }
 
@@ -57,7 +57,7 @@ started n = record { count = n; ledgers = listed mostLedgers (λ i. setUp n (suc
 abbrev pub noGroup : Group
 noGroup = record { count = 0; ledgers = replicate mostLedgers (fresh 0 0) }
 
--- the frame of a step record: the frame's own kind, and the body bytes after the target
+-- [D3, D4] the frame of a step record: the frame's own kind, and the body bytes after the target
 abbrev pub carried : Row → List ℕ → List ℕ
 carried row bytes = row .kind ∷ take (sum (row .body)) (drop 2 bytes)
 
@@ -85,7 +85,7 @@ pub record Outcome : Type 0 where
 abbrev pub outcome : Turn → List ℕ → Outcome
 outcome r list = record { group = r .group; did = r .did; list = list }
 
--- a step: the target ledger takes the frame; what it sends goes nowhere (the drill routes nothing itself)
+-- [D5] a step: the target ledger takes the frame; what it sends goes nowhere
 unfoldable pub stepped : Group → ℕ → List ℕ → List ℕ → Outcome
 stepped g target frame list =
     let after = step (ledgerOf g target) frame (replicate (total (propose .kind)) 0) list in
@@ -95,7 +95,7 @@ stepped g target frame list =
       list = after .list;
     }
 
--- a record that ends the run leaves the ledgers and the list as they were
+-- [D8] a record that ends the run leaves the ledgers and the list as they were
 abbrev pub stopped : Group → List ℕ → Outcome
 stopped g list = record { group = g; did = Stop; list = list }
 

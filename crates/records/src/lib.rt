@@ -1,4 +1,4 @@
-// The drill's records: how long one is, and what one does to a group of ledgers (document 01, "The drill").
+// The drill's records: how long one is, and what one does to a group of ledgers [D1 to D5].
 use frame::LedgerNo;
 use frame::MULTICAST;
 use frame::PROPOSE;

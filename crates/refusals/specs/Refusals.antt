@@ -1,4 +1,4 @@
--- When a ledger says no: rows 3 to 11 of the table, which judge a frame, in their order. Each says what it reads of the ledger.
+-- The rows of the table that judge a frame [A3 to A11], in their order. Each says what it reads of the ledger.
 -- Assumes nothing.
 use Prim.Native.Nat.{ℕ, _<_}
 use mathlib.Core.Path.{_≡_}
@@ -22,7 +22,7 @@ pub record Row : Type 0 where
 abbrev pub row : ℕ → Bool → Row
 row n b = record { no = n; given = b }
 
--- the first that applies; 0 where none does
+-- [T1] the first that applies; 0 where none does
 unfoldable pub firstGiven : List Row → ℕ
 firstGiven [] = 0
 firstGiven (r ∷ rs) = cond (r .given) (r .no) (firstGiven rs)
@@ -31,7 +31,7 @@ firstGiven (r ∷ rs) = cond (r .given) (r .no) (firstGiven rs)
 abbrev pub applies : List Row → ℕ → Bool
 applies rs k = getD rs k (row 0 false) .given
 
--- it applies, and none before it does
+-- [T2] it applies, and none before it does
 pub record First (rs : List Row) (k : ℕ) : Type 0 where
   pub inside : k < length rs
   pub so : applies rs k ≡ true
@@ -64,51 +64,51 @@ isHeld payments f = holds payments (f .payment .0)
 abbrev pub heldOne : List Payment → Incoming → Payment
 heldOne payments f = at payments (found payments f)
 
--- 6: a PROPOSE whose source is no ledger of the group, no destination, or this ledger itself
+-- [A6] a PROPOSE whose source is no ledger of the group, no destination, or this very ledger
 abbrev pub badSource : ℕ → ℕ → Incoming → Bool
 badSource group own f =
     isPropose f
     && (eqb (f .source .0) 0
     || (ltb group (f .source .0) || (not (has (f .destinations) (f .source .0)) || eqb (f .source .0) own)))
 
--- 7: a PROPOSE whose time is 0 or above the last one
+-- [A7] a PROPOSE whose time is 0 or later than the last one
 abbrev pub badTime : Incoming → Bool
 badTime f = isPropose f && not (isTime (f .time .0))
 
--- 8: the payment is held with other destinations
+-- [A8] the payment is held, and its destinations are others than the frame says
 abbrev pub otherDestinations : List Payment → Incoming → Bool
 otherDestinations payments f = isHeld payments f && not (eqb (heldOne payments f .destinations) (f .destinations))
 
--- 8: another time is held from this source for the payment
+-- [A8] the source has been heard for the payment, with a different time
 abbrev pub anotherTime : List Payment → Incoming → Bool
 anotherTime payments f =
     isHeld payments f
     && (heardFrom (heldOne payments f) (f .source .0) && not (eqb (timeFrom (heldOne payments f) (f .source .0)) (f .time .0)))
 
--- 8: other destinations; or, of a PROPOSE, another time of this source for the payment, or its same time for another payment, as a
--- proposal or in a stamp
+-- [A8] the frame goes against what is held: other destinations; or, of a PROPOSE, a different time of its source for the payment, or its
+-- time kept for a different payment
 abbrev pub conflict : List Payment → Incoming → Bool
 conflict payments f =
     otherDestinations payments f
     || (isPropose f && (anotherTime payments f || heldForAnother payments (f .payment .0) (f .source .0) (f .time .0)))
 
--- a frame brings nothing new to a payment: a PROPOSE that is held for it, or a MULTICAST when it is past waiting
+-- [A9] a frame brings nothing new to a payment: a PROPOSE whose time is kept, or a MULTICAST when it is no longer waiting
 abbrev pub repeats : Payment → Incoming → Bool
 repeats p f = cond (isPropose f) (hasProposal p (f .source .0) (f .time .0)) (not (isWaiting p))
 
--- 9: a repeat
+-- [A9] a repeat
 abbrev pub repeat : List Payment → Incoming → Bool
 repeat payments f = isHeld payments f && repeats (heldOne payments f) f
 
--- 10: the payment is not held, and as many are as can be
+-- [A10] the payment is not held, and as many are as can be
 abbrev pub noRoom : ℕ → List Payment → Incoming → Bool
 noRoom count payments f = not (isHeld payments f) && eqb count limit
 
--- 11: a MULTICAST, and the clock has no next time
+-- [A11] a MULTICAST, and the clock has no next time
 abbrev pub clockAtEnd : ℕ → Incoming → Bool
 clockAtEnd clock f = not (isPropose f) && eqb clock lastTime
 
--- the rows from 4, payment number 0, to 11
+-- [A4 to A11] the rows that judge values; the first of them refuses payment number 0
 abbrev pub rows : ℕ → ℕ → ℕ → ℕ → List Payment → Incoming → List Row
 rows group own clock count payments f =
     row 4 (eqb (f .payment .0) 0)
@@ -121,16 +121,16 @@ rows group own clock count payments f =
     ∷ row 11 (clockAtEnd clock f)
     ∷ []
 
--- the rows that judge a frame: 3, the bytes are none, and then those of its values
+-- [A3 to A11] the rows that judge a frame: that the bytes are none, and then those of its values
 abbrev pub frameRows : ℕ → ℕ → ℕ → ℕ → List Payment → List ℕ → List Row
 frameRows group own clock count payments bytes =
     row 3 (notAFrame bytes) ∷ rows group own clock count payments (incoming (frameValues bytes))
 
--- the frame's payment: the one that is held, or a new one
+-- [R11, R21] the frame's payment: the one that is held, or a new one
 abbrev pub paymentIn : List Payment → Incoming → Payment
 paymentIn payments f = cond (isHeld payments f) (heldOne payments f) (newPayment (f .payment .0) (f .destinations))
 
--- its place: a new one goes behind the held ones, which in a sound state is the first unused place
+-- [K3] its place: a new one goes behind the held ones, which in a sound state is the first place not in use
 abbrev pub placeIn : ℕ → List Payment → Incoming → ℕ
 placeIn count payments f = cond (isHeld payments f) (found payments f) count
 

@@ -1,4 +1,4 @@
-// When a ledger says no: rows 3 to 11 of the table, which judge a frame, in their order.
+// The rows of the table that judge a frame [A3 to A11], in their order.
 use frame::Frame;
 use frame::LedgerNo;
 use frame::PROPOSE;
@@ -61,7 +61,7 @@ fn values(frame: Frame) -> Incoming
     }
 }
 
-// Row 6.
+// [A6] Whether the source of a PROPOSE cannot be.
 fn bad_source(group: u8, own: LedgerNo, f: Incoming) -> bool
     ensures { λ r. ⌜ r ≡ badSource group (own .0) f ⌝ }
 {
@@ -71,14 +71,14 @@ fn bad_source(group: u8, own: LedgerNo, f: Incoming) -> bool
             | ((group < source) | (!ledgers::among(f.destinations, f.source) | (source == own.0))))
 }
 
-// Row 7.
+// [A7] Whether the time of a PROPOSE is none.
 fn bad_time(f: Incoming) -> bool
     ensures { λ r. ⌜ r ≡ badTime f ⌝ }
 {
     (f.kind == PROPOSE) & !((1 <= f.time.0) & (f.time.0 <= LAST_TIME))
 }
 
-// Row 8.
+// [A8] Whether a frame goes against what is held.
 fn conflict(payments: [Payment; HELD], f: Incoming, p: Payment) -> bool
     requires { ⌜ p ≡ paymentIn payments f ⌝ }
     ensures { λ r. ⌜ r ≡ conflict payments f ⌝ }
@@ -94,7 +94,7 @@ fn conflict(payments: [Payment; HELD], f: Incoming, p: Payment) -> bool
     other_destinations
 }
 
-// Row 9: whether a frame brings nothing new to a payment.
+// [A9] Whether a frame brings nothing new to a payment.
 fn repeats(p: Payment, f: Incoming) -> bool
     ensures { λ r. ⌜ r ≡ repeats p f ⌝ }
 {
@@ -104,7 +104,7 @@ fn repeats(p: Payment, f: Incoming) -> bool
     p.phase != payment::WAITING
 }
 
-// Row 11.
+// [A11] Whether the clock has no next time for a MULTICAST.
 fn clock_at_end(clock: Time, f: Incoming) -> bool
     ensures { λ r. ⌜ r ≡ clockAtEnd (clock .0) f ⌝ }
 {

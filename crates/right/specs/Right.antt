@@ -1,4 +1,4 @@
--- Document 01, "A state is sound when": the clauses that speak of one payment, and of two.
+-- What soundness asks of one payment, and of two [S2 to S8].
 -- Assumes nothing.
 use Prim.Native.Nat.{ℕ, suc}
 use mathlib.Core.Bool.{Bool, cond, not, _&&_}
@@ -8,46 +8,46 @@ use Rattle.payment.specs.Payments.{allHeard, hasStamp, heardFrom, isProposed, i
 use Rattle.ledgers.specs.Ledgers.{has, mostLedgers, unlawful}
 use Rattle.payment.specs.declared.Payment.{Payment}
 
--- a non-zero number
+-- [S2] the number is not 0
 abbrev pub numberNotZero : Payment → Bool
 numberNotZero p = not (eqb (p .number .0) 0)
 
--- lawful destinations with this ledger
+-- [S3] the destinations are not refused here
 abbrev pub lawful : ℕ → ℕ → Payment → Bool
 lawful group own p = not (unlawful group own (p .destinations))
 
--- of ledger k: a heard one is a destination, with a time 1 to 60,000; any other time is 0
+-- [S4] of ledger k: if it was heard it is a destination, and a time is kept from it; if it was not, 0 is kept
 abbrev pub timeRight : Payment → ℕ → Bool
 timeRight p k = cond (heardFrom p k) (has (p .destinations) k && isTime (timeFrom p k)) (eqb (timeFrom p k) 0)
 
--- heard ones are destinations, with times 1 to 60,000, all other times 0
+-- [S4] so it is of every ledger
 unfoldable pub heardRight : Payment → Bool
 heardRight p = every mostLedgers (λ k. timeRight p (suc k))
 
--- own times and the times of stamps are not above the clock
+-- [S7] neither the own time nor the time in the stamp is later than the clock
 unfoldable pub notAboveClock : ℕ → ℕ → Payment → Bool
 notAboveClock own clock p =
     not (heardFrom p own && ltb clock (timeFrom p own)) && not (hasStamp p && ltb clock (stampOf p .time .0))
 
--- waiting means own not heard and some other heard, proposed own heard and some other not, stamped or posted all heard
--- (heard ones being destinations: some is heard, without own, is some other; not all, with own, is some other not)
+-- [S8] waiting: another is heard, this one is not; proposed: this one is heard, another is not; stamped or posted: all are heard
+-- (since only destinations are heard [S4]: somebody and not own is another; own and not all leaves another out)
 unfoldable pub phaseRight : ℕ → Payment → Bool
 phaseRight own p =
     cond (isWaiting p) (not (heardFrom p own) && not (eqb (p .heard) 0))
     (cond (isProposed p) (heardFrom p own && not (allHeard p)) (hasStamp p && allHeard p))
 
--- an unused place is all zero, and so counts as waiting
+-- [S5, K6] a place not in use: zero all through, and so waiting
 unfoldable pub unused : Payment → Bool
 unused p =
     eqb (p .number .0) 0
     && (eqb (p .destinations) 0
     && (eqb (p .heard) 0 && (isWaiting p && every mostLedgers (λ k. eqb (timeFrom p (suc k)) 0))))
 
--- two payments have different numbers
+-- [S2] two payments have different numbers
 abbrev pub numbersDiffer : Payment → Payment → Bool
 numbersDiffer p q = not (eqb (p .number .0) (q .number .0))
 
--- one ledger's times, in proposals and in stamps, differ between two payments
+-- [S6] no ledger has a time that is kept for both payments, proposed or in a stamp
 unfoldable pub timesDiffer : Payment → Payment → Bool
 timesDiffer p q =
     every mostLedgers

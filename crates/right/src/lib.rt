@@ -1,4 +1,4 @@
-// What soundness asks of one held payment, of two, and of an unused place.
+// What soundness asks of one held payment, of two, and of an unused place [S2 to S8].
 use frame::LedgerNo;
 use frame::Time;
 use payment::LAST_TIME;

@@ -1,5 +1,5 @@
--- Two runs written out call by call, the oldest first: case L's, and one of three ledgers with overlapping destinations, retries,
--- and a PROPOSE before its MULTICAST.
+-- Two runs [G1 to G6] written out call by call, the oldest first: case L's, and one of three ledgers with overlapping destinations,
+-- retries, and a PROPOSE before its MULTICAST.
 -- Assumes nothing.
 use Prim.Native.Nat.{ℕ}
 use mathlib.Core.List.{List, [], _∷_, reverse}
@@ -16,7 +16,7 @@ to bytes ledger k = record { to = k; frame = bytes; outgoing = replicate 9 0; li
 abbrev goes : ℕ → ℕ → Entry
 goes m d = record { number = m; destinations = d }
 
--- case L: payments 7 and 9, both to ledgers 1 and 2
+-- [CL] payments 7 and 9, both to ledgers 1 and 2
 abbrev pub tableL : List Entry
 tableL = goes 7 3 ∷ goes 9 3 ∷ []
 

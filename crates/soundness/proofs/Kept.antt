@@ -1,4 +1,4 @@
--- A taken step on a sound state gives a sound state.
+-- A sound state stays sound when a frame is taken [S12].
 -- Assumes nothing.
 use Prim.Native.Nat.{ℕ, _+_, _<_, _≤_, max}
 use mathlib.Core.Path.{_≡_, refl, ap, sym, _∙_, subst}

@@ -65,7 +65,7 @@ module _ (l : Ledger) (frame outgoing list : List ℕ) where
       (λ t. let e = eqb-true _ _ t in ap (λ o. o .answer) (is-taken e .so) ∙ sym e)
       (λ t. ap (λ o. o .answer) (is-refused (eqb-false _ _ t)))
 
-  -- a taken step on a sound state gives a sound state; a refusal or repeat (leaves .payments) it as it was
+  -- [S12] a sound state stays sound when a frame is taken; a refusal leaves it as it was
   pub step-sound : Shaped l → sound l ≡ true → sound (step l frame outgoing list .state) ≡ true
   step-sound shape s =
       split (eqb (answerTo l frame outgoing list) 0)

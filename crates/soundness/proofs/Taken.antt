@@ -1,4 +1,4 @@
--- What a taken step does, in the words of document 01: recipients and copies, postings, and nothing else.
+-- What a taken step does, in the words of the rules [R3, R41 to R44]: recipients and copies, postings, and nothing else.
 -- Assumes nothing.
 use Prim.Native.Nat.{ℕ}
 use mathlib.Core.Path.{_≡_, refl, ap, sym, _∙_, subst}

@@ -18,29 +18,29 @@ use Rattle.ledger.specs.Step.{Outcome, step}
 use Rattle.ledger.specs.declared.Ledger.{Ledger}
 use Rattle.soundness.specs.Shaped.{Shaped}
 
--- what rule 4 says of a step that is taken; `after` is the ledger when the payment has been heard, and stamped if all were
+-- [R41 to R44] what rule 4 says of a step that is taken; `after` is the ledger when the payment has been heard, and stamped if all were
 pub record Posts (after : Ledger) (list : List ℕ) (o : Outcome) : Type 0 where
-  -- their numbers are written from the list's first place, and every place beyond is as it was
+  -- [R44, R4] their numbers stand at the front of the list, and the rest of it is as it was
   pub list-is : o .list ≡ numbers (after .payments) (after .own .0) ++ drop (o .postings) list
   -- as many as are free
   pub count-is : o .postings ≡ length (toPost (after .payments) (after .own .0))
-  -- exactly the payments that were free
+  -- [R43] exactly the payments that were free
   pub only-free : All (λ i. (i < limit) × (isFree (after .payments) (after .own .0) i ≡ true)) (toPost (after .payments) (after .own .0))
   pub all-free : (i : ℕ) → i < limit → isFree (after .payments) (after .own .0) i ≡ true → In i (toPost (after .payments) (after .own .0))
   -- strictly rising by stamp, and so each once
   pub rising : Rising (before (after .payments)) (toPost (after .payments) (after .own .0))
   -- they are posted, and every other payment is as it was
   pub payments-are : o .state .payments ≡ afterPosting (after .payments) (after .own .0)
-  -- afterwards no stamped payment is free
+  -- [S9] afterwards no stamped payment is free
   pub none-left : noneFree (o .state .payments) (o .state .own .0) ≡ true
 
--- the stamp of a payment is the proposal of a ledger that was heard, and no proposal that was heard is above it
+-- [R31] the stamp of a payment is the proposal of a ledger that was heard, and no proposal that was heard is above it
 pub record IsGreatest (p : Payment) : Type 0 where
   pub ledger : ℕ
   pub heard : heardFrom p ledger ≡ true
   pub is : stampOf p ≡ proposal (p .times) ledger
   pub none-above : (k : ℕ) → 1 ≤ k → k ≤ mostLedgers → heardFrom p k ≡ true → below (stampOf p) (proposal (p .times) k) ≡ false
 
--- a step on a sound state gives a sound state, whatever the frame and the buffers
+-- [S12] a sound state stays sound, whatever the frame and the buffers
 abbrev pub KeepsSound : Type 0
 KeepsSound = (l : Ledger) (frame outgoing list : List ℕ) → Shaped l → sound l ≡ true → sound (step l frame outgoing list .state) ≡ true

@@ -10,14 +10,14 @@ ghost use Prim.Native.Nat.{_≤_};
 ghost use Rattle.frame.specs.Typed.{Typed};
 ghost use Rattle.ledger.specs.Sound.{sound};
 
-// A step on a sound state hands back a sound state.
+// [S12] A sound state stays sound.
 fn keeps_sound(ledger: Ledger, frame: &[u8], outgoing: &mut [u8], postings: &mut [u32]) -> Step
     ensures { λ r. ⌜ (sound ledger ≡ true → sound (r .state) ≡ true) ⌝ }
 {
     ledger.step(frame, outgoing, postings)
 }
 
-// Every frame has numbers of its table's widths, so that a written frame is read back with its values.
+// [F4] Every frame has numbers of its table's widths, so that a written frame is read back with its values.
 fn typed(frame: Frame) -> Frame
     ensures { λ r. ⌜ Typed frame × (r ≡ frame) ⌝ }
 {
@@ -35,7 +35,7 @@ fn typed(frame: Frame) -> Frame
     }
 }
 
-// A frame that was read and is written again gives its bytes.
+// [F5] A frame that was read and is then written gives its bytes.
 fn read_is_written(bytes: &[u8], buffer: &mut [u8]) -> bool
     ensures { λ r. ⌜ (r ≡ true → length (now (bytes .entry)) ≤ length (now (buffer .entry)) → take (length (now (bytes .entry))) (now (buffer .exit)) ≡ now (bytes .entry)) ⌝ }
 {

@@ -1,5 +1,5 @@
 //! Runs the built drill on examples. An example is a file of records, as hexadecimal digits with `#` before a remark, and beside
-//! it what document 01 has the drill print.
+//! it what the rules have the drill print.
 
 use std::fs;
 use std::io::Write;

@@ -1,5 +1,5 @@
-//! Frames: one byte of kind, then a body whose length the kind fixes, high
-//! byte first.
+//! Frames (F1 to F7 of the rules): a byte that says the kind, and the body that
+//! goes with it. Numbers have their high byte in front.
 
 pub const MULTICAST: u8 = 1;
 pub const PROPOSE: u8 = 2;
@@ -53,8 +53,8 @@ impl Frame {
     }
 }
 
-/// Reads a frame. `None` is answer 3: empty, unknown kind, or a length that is
-/// not exactly the kind's. Values are not judged here.
+/// Reads a frame. `None` is answer 3: there are no bytes, the kind is not one of
+/// the two, or the length is wrong for it. Values are not judged here.
 pub fn read(bytes: &[u8]) -> Option<Frame> {
     let kind = *bytes.first()?;
     let wanted = match kind {

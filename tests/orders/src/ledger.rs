@@ -1,4 +1,4 @@
-//! The plain ledger: document 01 taken down rule by rule, with no thought of
+//! The plain ledger: the rules taken down one by one, with no thought of
 //! proof. It is what the drill's output is compared with.
 //!
 //! `refusals` judges a frame, `sound` a state.

@@ -1,6 +1,6 @@
 //! A second, independent program that runs random orders against the drill.
 //!
-//! It is written from document 01 alone and shares nothing with the program it
+//! It is written from the rules alone and shares nothing with the program it
 //! judges. `ledger`, `refusals` and `sound` are a plain ledger over `frame`,
 //! and `drill` prints what a drill has to print. `honest`, `hostile` and
 //! `damaged` make inputs; `program` runs the drill over them, `compare`

@@ -2,6 +2,7 @@
 //! R hostile runs and a tenth as many damaged inputs.
 
 use std::process::ExitCode;
+use std::time::Instant;
 
 use orders::compare::Runner;
 use orders::program::Program;
@@ -39,12 +40,17 @@ fn options(words: Vec<String>) -> Result<(u64, usize), String> {
 fn run(program: &Program, seed: u64, runs: usize) -> ExitCode {
     println!("drill {}", program.path.display());
     println!("seed {seed}");
+    let began = Instant::now();
     let drill = |input: &[u8]| program.output(input);
     let mut tally = Tally::default();
     let mut differences = 0;
-    let rounds: [(Round, usize); 3] =
-        [(rounds::honest, runs), (rounds::hostile, runs), (rounds::damaged, runs.div_ceil(10))];
-    for (round, count) in rounds {
+    let rounds: [(&str, Round, usize); 3] = [
+        ("honest", rounds::honest, runs),
+        ("hostile", rounds::hostile, runs),
+        ("damaged", rounds::damaged, runs.div_ceil(10)),
+    ];
+    for (number, (name, round, count)) in rounds.into_iter().enumerate() {
+        println!("round {} of 3: {count} {name} runs ({} s so far)", number + 1, seconds(began));
         if let Err(report) = round(&drill, seed, count, &mut tally) {
             println!("{report}");
             differences += 1;
@@ -54,13 +60,21 @@ fn run(program: &Program, seed: u64, runs: usize) -> ExitCode {
         println!("answer {answer}: {count}");
     }
     println!("inputs stopped: {}", tally.stops);
-    println!("{} runs, {} records, {differences} differences", tally.runs, tally.records);
     let not_met = tally.answers_not_met();
     if !not_met.is_empty() {
-        println!("answers not met: {not_met:?}");
+        println!("answers not met, so more runs are wanted: {not_met:?}");
     }
+    let (runs, records) = (tally.runs, tally.records);
+    println!(
+        "orders: {runs} runs, {records} records, {differences} differences, in {} s",
+        seconds(began)
+    );
     match differences == 0 && not_met.is_empty() {
         true => ExitCode::SUCCESS,
         false => ExitCode::FAILURE,
     }
+}
+
+fn seconds(began: Instant) -> u64 {
+    began.elapsed().as_secs()
 }

@@ -1,11 +1,11 @@
-//! The five mistakes of 'How the desks got it wrong', as switches of the plain
+//! The desks' five mistakes (M1 to M5 of the rules), as switches of the plain
 //! ledger. They show that the comparison would notice such a ledger.
 
 #[derive(Clone, Copy, PartialEq, Eq, Debug)]
 pub enum Mistake {
-    /// Posts when stamped, without looking at payments still proposed.
+    /// Posts what is stamped, whatever is still proposed.
     PostsWhenStamped,
-    /// Compares times only, so that two stamps tie.
+    /// Leaves ledgers out of the comparison, so that stamps can tie.
     ComparesTimesOnly,
     /// Drops a PROPOSE that came before its MULTICAST, though it answers 0.
     DropsEarlyProposals,

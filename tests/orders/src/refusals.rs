@@ -1,4 +1,4 @@
-//! When a ledger says no.
+//! The answers 1 to 11 (A1 to A11 of the rules).
 
 use crate::frame::{self, Frame, Proposal, PROPOSE_LENGTH};
 use crate::ledger::{bit, Ledger, Phase, LAST_TIME, MOST_PAYMENTS};
@@ -6,7 +6,7 @@ use crate::mistake::Mistake;
 use crate::sound::is_sound;
 
 impl Ledger {
-    /// The table of refusals, in its order; the first that applies is given.
+    /// The table of answers, in its order: the first that applies.
     pub(crate) fn judge(
         &self,
         mistake: Option<Mistake>,

@@ -1,4 +1,4 @@
-//! When a state is sound, in the document's own order.
+//! When a state is sound (S1 to S11 of the rules), mostly in their order.
 
 use crate::ledger::{bit, Ledger, Phase, Place, LAST_TIME, MOST_LEDGERS, MOST_PAYMENTS};
 
@@ -49,7 +49,7 @@ fn payments_and_times_differ(held: &[Place]) -> bool {
     })
 }
 
-/// Own times and the times of stamps are not above the clock.
+/// Neither the own time nor the time in the stamp is later than the clock.
 fn is_within_clock(ledger: &Ledger, place: &Place) -> bool {
     let stamp_time = match place.phase {
         Phase::Stamped | Phase::Posted => place.stamp().map_or(0, |stamp| stamp.time),

@@ -1,4 +1,4 @@
-//! 'From the counter', A to K, on the plain ledger: what the drill is compared
+//! The worked cases A to K on the plain ledger: what the drill is compared
 //! with has to be right itself. These need no drill.
 
 use orders::frame::{self, Frame};

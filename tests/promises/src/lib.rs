@@ -1,5 +1,6 @@
 //! Holds the lists in docs/ to the tree, both ways: a name that a list cites must be declared where the list says, and what the tree
-//! has of public functions and must-fail edits must stand in its list.
+//! has of public functions and must-fail edits must stand in its list. Holds the list of promises to the clauses of the rules in the
+//! same way, and what the definitions and the code cite of them.
 
 use std::collections::BTreeSet;
 use std::fs;
@@ -56,6 +57,75 @@ pub fn newest(text: &str) -> &str {
 /// The names between backticks in the first cells of a list's tables.
 pub fn listed(text: &str) -> BTreeSet<String> {
     rows(text).flat_map(|row| quoted(row[1..].split(" | ").next().unwrap_or(""))).collect()
+}
+
+/// The numbers of the clauses in a text of rules, in its order: a clause begins its line with `- **`, its number and `**`.
+pub fn clauses(text: &str) -> Vec<String> {
+    text.lines().filter_map(|line| Some(line.strip_prefix("- **")?.split_once("**")?.0.to_string())).collect()
+}
+
+fn cells(row: &str) -> Vec<&str> {
+    row.trim_matches('|').split(" | ").map(str::trim).collect()
+}
+
+/// The rows of a list's tables by clause, each as its cells, without the tables' headers.
+pub fn clause_rows(text: &str) -> Vec<Vec<&str>> {
+    rows(text).map(cells).filter(|cells| cells[0] != "clause").collect()
+}
+
+/// The numbers in the first cells of a list's tables by clause, in its order.
+pub fn clauses_listed(text: &str) -> Vec<String> {
+    clause_rows(text).iter().map(|cells| cells[0].to_string()).collect()
+}
+
+/// The clauses that stand more than once.
+pub fn twice(clauses: &[String]) -> Vec<String> {
+    let mut seen = BTreeSet::new();
+    clauses.iter().filter(|clause| !seen.insert(*clause)).cloned().collect()
+}
+
+/// The clauses of the first that are not among the second.
+pub fn without(clauses: &[String], others: &[String]) -> Vec<String> {
+    clauses.iter().filter(|clause| !others.contains(clause)).cloned().collect()
+}
+
+/// Whether a word can be the number of a clause: a capital letter, and behind it a number or the letter of a worked case.
+fn is_clause(word: &str) -> bool {
+    let mut letters = word.chars();
+    let group = letters.next().is_some_and(|c| c.is_ascii_uppercase());
+    let rest = letters.as_str();
+    let number = !rest.is_empty() && rest.chars().all(|c| c.is_ascii_digit());
+    let letter = rest.len() == 1 && rest.chars().all(|c| c.is_ascii_uppercase());
+    group && (number || letter)
+}
+
+/// The clauses that the comments of a text cite, between square brackets: one, some parted by commas, or the first and the last of
+/// some, as in `[A6]`, `[R11, R12]` and `[A1 to A11]`.
+pub fn clauses_cited(text: &str, comment: &str) -> Vec<String> {
+    let mut found = Vec::new();
+    for line in text.lines() {
+        let said = line.split_once(comment).map_or("", |(_, said)| said);
+        for (inside, _) in said.split('[').skip(1).filter_map(|part| part.split_once(']')) {
+            let words: Vec<&str> = inside.split(", ").flat_map(|some| some.split(" to ")).collect();
+            if words.iter().all(|word| is_clause(word)) {
+                found.extend(words.iter().map(|word| word.to_string()));
+            }
+        }
+    }
+    found
+}
+
+/// The clauses that the tree's definitions and code cite in their comments.
+pub fn clauses_in_crates(root: &Path) -> BTreeSet<String> {
+    let mut found = BTreeSet::new();
+    for (_, home) in crates(root) {
+        for (part, ending, comment) in [("specs", ".antt", "--"), ("src", ".rt", "//")] {
+            for file in files(&home.join(part), ending) {
+                found.extend(clauses_cited(&fs::read_to_string(file).unwrap_or_default(), comment));
+            }
+        }
+    }
+    found
 }
 
 fn files(dir: &Path, ending: &str) -> Vec<PathBuf> {

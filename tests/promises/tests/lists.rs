@@ -1,5 +1,5 @@
-use promises::{cited, cited_anywhere, edits, holds, listed, missing, newest};
-use promises::{not_public, public_functions, public_in_programs, root, uncited, unlisted};
+use promises::{cited, cited_anywhere, clause_rows, clauses, clauses_cited, clauses_in_crates, clauses_listed, twice, without};
+use promises::{edits, holds, listed, missing, newest, not_public, public_functions, public_in_programs, root, uncited, unlisted};
 use std::collections::BTreeSet;
 use std::fs;
 use std::path::{Path, PathBuf};
@@ -74,12 +74,69 @@ fn every_edit_is_cited_in_promises() {
 #[test]
 fn every_row_of_promises_says_what_holds_it() {
     let text = list("docs/PROMISES.md");
-    let rows: Vec<&str> = text.lines().filter(|l| l.starts_with("| ") && !l.starts_with("| sentence")).collect();
-    assert!(rows.len() > 100);
-    for row in rows {
-        let cells: Vec<&str> = row.trim_matches('|').split(" | ").map(str::trim).collect();
-        assert!(cells.len() == 2 && cells.iter().all(|c| !c.is_empty()), "{row}");
+    let rows = clause_rows(&text);
+    assert!(rows.len() > 80);
+    for cells in rows {
+        assert!(cells.len() == 3 && cells.iter().all(|c| !c.is_empty()), "{cells:?}");
     }
+}
+
+#[test]
+fn every_name_in_rules_is_in_the_tree() {
+    assert_eq!(missing(&root(), cited_anywhere(&list("docs/RULES.md"))), NONE);
+}
+
+#[test]
+fn every_clause_of_the_rules_has_a_row_in_promises() {
+    let rules = clauses(&list("docs/RULES.md"));
+    assert!(rules.len() > 80);
+    assert_eq!(without(&rules, &clauses_listed(&list("docs/PROMISES.md"))), NONE);
+}
+
+#[test]
+fn every_row_of_promises_has_its_clause_in_the_rules() {
+    let rows = clauses_listed(&list("docs/PROMISES.md"));
+    assert_eq!(without(&rows, &clauses(&list("docs/RULES.md"))), NONE);
+}
+
+#[test]
+fn no_clause_stands_twice() {
+    assert_eq!(twice(&clauses(&list("docs/RULES.md"))), NONE);
+    assert_eq!(twice(&clauses_listed(&list("docs/PROMISES.md"))), NONE);
+}
+
+#[test]
+fn every_clause_cited_in_a_crate_is_in_the_rules() {
+    let named: Vec<String> = clauses_in_crates(&root()).into_iter().collect();
+    assert!(named.len() > 60);
+    assert_eq!(without(&named, &clauses(&list("docs/RULES.md"))), NONE);
+}
+
+#[test]
+fn a_clause_without_a_row_and_a_row_without_a_clause_are_found_out() {
+    let rules = clauses("None: **Z1** and\n- **bold\n\n- **A1** One.\n- **A2** Two, on\n  two lines.\n- **CL** Three.\n- **A2** More.\n");
+    assert_eq!(rules, ["A1", "A2", "CL", "A2"]);
+    let rows = clauses_listed("CL\n\n| clause | in short | held by |\n|---|---|---|\n| A1 | one | A2 |\n| A3 | | |\n| A1 | again | x |\n");
+    assert_eq!(rows, ["A1", "A3", "A1"]);
+    assert_eq!(without(&rules, &rows), ["A2", "CL", "A2"]);
+    assert_eq!(without(&rows, &rules), ["A3"]);
+    assert_eq!(twice(&rules), ["A2"]);
+    assert_eq!(twice(&rows), ["A1"]);
+}
+
+#[test]
+fn a_clause_is_cited_in_a_comment_and_between_brackets_only() {
+    let text = "-- [A6] so; [R11, R12]\nxs = [] ++ [A7]\nys = [A8]  -- [A1 to A3], A4\n-- [ours], [A5, ours], [CL], [Cl], [A]\n-- [A9\n";
+    assert_eq!(clauses_cited(text, "--"), ["A6", "R11", "R12", "A1", "A3", "CL"]);
+    let tree = made_up(
+        "clauses",
+        &[
+            ("crates/a/specs/One.antt", "-- [A1] one\n// [A2]\n"),
+            ("crates/a/src/lib.rt", "// [A3]\n-- [A4]\n"),
+            ("crates/b/proofs/Two.antt", "-- [A5]\n"),
+        ],
+    );
+    assert_eq!(clauses_in_crates(&tree), set(&["A1", "A3"]));
 }
 
 #[test]
@@ -170,5 +227,5 @@ fn an_edit_that_no_row_cites_is_found_out() {
         ],
     );
     assert_eq!(edits(&tree), set(&["a/must-fail/one", "a/must-fail/two", "b/must-fail/one"]));
-    assert_eq!(uncited(&tree, "`a/must-fail/two`\n\n| sentence | `a/must-fail/one` |\n"), ["a/must-fail/two", "b/must-fail/one"]);
+    assert_eq!(uncited(&tree, "`a/must-fail/two`\n\n| A1 | one | `a/must-fail/one` |\n"), ["a/must-fail/two", "b/must-fail/one"]);
 }

@@ -40,7 +40,9 @@ fn measure() -> Result<(), String> {
     println!("seed {SEED}, {days} full days, {steps} steps, {repeats} repeats");
     let (mut in_process, mut as_reference, mut as_drill) = (Vec::new(), Vec::new(), Vec::new());
     // Taking turns spreads a slow moment of the machine over all three.
-    for _ in 0..repeats {
+    let began = Instant::now();
+    for repeat in 1..=repeats {
+        println!("repeat {repeat} of {repeats} ({} s so far)", began.elapsed().as_secs());
         in_process.push(steps as f64 / step_all(&input).as_secs_f64());
         let (wanted, time) = timed(&reference, &input)?;
         as_reference.push(steps as f64 / time.as_secs_f64());
@@ -53,7 +55,10 @@ fn measure() -> Result<(), String> {
     let _ = report("plain ledger, steps alone", in_process);
     let plain = report("plain ledger, reference drill as a process", as_reference);
     let proved = report("drill as a process", as_drill);
-    println!("drill : reference = {:.3}", proved / plain);
+    println!(
+        "bench: the drill makes {:.3} of the plain ledger's steps in the same time",
+        proved / plain
+    );
     Ok(())
 }
 
