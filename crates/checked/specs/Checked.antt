@@ -6,7 +6,7 @@ use mathlib.Core.Bool.{Bool, not, _&&_, _||_}
 use lib.Dec.{leb, ltb}
 use Rattle.common.specs.Places.{every}
 use Rattle.payment.specs.Payments.{isPosted, isProposed, isStamped, stampOf, timeFrom}
-use Rattle.right.specs.Right.{unused}
+use Rattle.right.specs.Right.{apart, right, unused}
 use Rattle.payment.specs.Stamps.{below}
 use Rattle.payment.specs.declared.Payment.{Payment}
 use Rattle.payment.specs.declared.Stamp.{Stamp}
@@ -36,8 +36,8 @@ unusedAt payments count i = ltb i count || unused (at payments i)
 abbrev pub unusedAll : List Payment → ℕ → Bool
 unusedAll payments count = every limit (unusedAt payments count)
 
--- [S10, S11] a payment may stand unposted beside a posted stamp: if it is stamped, its own stamp is higher; if it is proposed, its own
--- time is later than the posted one; of any other nothing is asked
+-- [S10, S11] a payment may stand unposted beside a posted stamp: if it is stamped, its stamp is higher; if it is proposed, its own time
+-- is later than the time in the posted stamp; of any other nothing is asked
 unfoldable pub comesAfter : ℕ → Stamp → Payment → Bool
 comesAfter own stamp p =
     (not (isStamped p) || below stamp (stampOf p)) && (not (isProposed p) || ltb (stamp .time .0) (timeFrom p own))
@@ -49,3 +49,9 @@ belowAll payments own p = not (isPosted p) || every limit (λ j. comesAfter own 
 -- [S10, S11] so it is of each that is posted
 abbrev pub postedBelow : List Payment → ℕ → Bool
 postedBelow payments own = every limit (λ i. belowAll payments own (at payments i))
+
+-- for the code: what soundness asks of the held payments, in the order of its checks; ledger/Sound has the clauses one by one
+unfoldable pub heldRight : List Payment → ℕ → ℕ → ℕ → ℕ → Bool
+heldRight payments count group own clock =
+    heldAll payments count (right group own clock)
+    && (heldPairs payments count apart && (unusedAll payments count && postedBelow payments own))

@@ -8,16 +8,10 @@ ghost use mathlib.Core.Path.{_≡_};
 ghost use Prim.Native.Nat.{_<_};
 ghost use Rattle.right.specs.Right.{apart, right};
 ghost use Rattle.held.specs.Held.{limit};
-ghost use Rattle.checked.specs.Checked.{belowAll, comesAfter, heldAll, heldPairs, pairedAt, postedBelow, unusedAll};
+ghost use Rattle.checked.specs.Checked.{belowAll, comesAfter, heldAll, heldPairs, heldRight, pairedAt, postedBelow, unusedAll};
 
 // Whether each held payment is right.
-pub fn held_all(
-    payments: [Payment; HELD],
-    count: u16,
-    group: u8,
-    own: LedgerNo,
-    clock: Time,
-) -> bool
+fn held_all(payments: [Payment; HELD], count: u16, group: u8, own: LedgerNo, clock: Time) -> bool
     ensures { λ r. ⌜ r ≡ heldAll payments count (right group (own .0) (clock .0)) ⌝ }
 {
     for i in 0..HELD {
@@ -30,7 +24,7 @@ pub fn held_all(
 }
 
 // Whether each unused place is all zero.
-pub fn unused_all(payments: [Payment; HELD], count: u16) -> bool
+fn unused_all(payments: [Payment; HELD], count: u16) -> bool
     ensures { λ r. ⌜ r ≡ unusedAll payments count ⌝ }
 {
     for i in 0..HELD {
@@ -61,7 +55,7 @@ fn paired_at(payments: [Payment; HELD], i: usize, count: u16) -> bool
 }
 
 // Whether each two held payments are apart.
-pub fn held_pairs(payments: [Payment; HELD], count: u16) -> bool
+fn held_pairs(payments: [Payment; HELD], count: u16) -> bool
     ensures { λ r. ⌜ r ≡ heldPairs payments count apart ⌝ }
 {
     for i in 0..HELD {
@@ -101,7 +95,7 @@ fn below_all(payments: [Payment; HELD], own: LedgerNo, p: Payment) -> bool
 }
 
 // Whether every payment comes after each that is posted.
-pub fn posted_below(payments: [Payment; HELD], own: LedgerNo) -> bool
+fn posted_below(payments: [Payment; HELD], own: LedgerNo) -> bool
     ensures { λ r. ⌜ r ≡ postedBelow payments (own .0) ⌝ }
 {
     for i in 0..HELD {
@@ -111,4 +105,20 @@ pub fn posted_below(payments: [Payment; HELD], own: LedgerNo) -> bool
         }
     }
     true
+}
+
+// [S2 to S8, S10, S11] Whether the held payments are right: each, each two, the unused places, and what is posted.
+pub fn held_right(
+    payments: [Payment; HELD],
+    count: u16,
+    group: u8,
+    own: LedgerNo,
+    clock: Time,
+) -> bool
+    ensures { λ r. ⌜ r ≡ heldRight payments count group (own .0) (clock .0) ⌝ }
+{
+    let each = held_all(payments, count, group, own, clock);
+    let pairs = held_pairs(payments, count);
+    let unused = unused_all(payments, count);
+    each & (pairs & (unused & posted_below(payments, own)))
 }

@@ -4,7 +4,8 @@ use Prim.Native.Nat.{ℕ}
 use mathlib.Core.Path.{_≡_, refl}
 use mathlib.Core.List.{List, [], _∷_}
 use Rattle.ledger.proofs.Computing.{computing}
-use Rattle.records.specs.Records.{frameIn, recordTotal, started, stepped, stops, turn}
+use Rattle.records.specs.Records.{frameIn, recordTotal, stops}
+use Rattle.group.specs.Groups.{started, stepped, turn}
 use Rattle.lines.specs.Decimal.{digits}
 use Rattle.lines.specs.Lines.{spaced}
 use Rattle.day.specs.Days.{begun, output, outputs}

@@ -1,6 +1,6 @@
 -- Laws of a day, one for each way through the definitions.
 -- Assumes nothing.
-use Rattle.records.specs.Records.{Outcome as Turned}
+use Rattle.group.specs.Groups.{Outcome as Turned, turn}
 use Prim.Native.Nat.{ℕ, _+_, _≤_}
 use mathlib.Core.Path.{_≡_, ap, sym, _∙_, subst}
 use mathlib.Core.List.{List}
@@ -10,8 +10,8 @@ use lib.ListN.{replicate}
 use Rattle.common.proofs.TestLaws.{split}
 use Rattle.frame.specs.Frames.{kindIn}
 use Rattle.held.specs.Held.{limit}
-use Rattle.records.specs.Records.{recordTotal, turn}
-use Rattle.records.specs.declared.Group.{Group}
+use Rattle.records.specs.Records.{recordTotal}
+use Rattle.group.specs.declared.Group.{Group}
 use Rattle.lines.specs.Lines.{Wrote, ending, printed, writing, wrote}
 use Rattle.lines.proofs.LineLaws.{printed-short}
 use Rattle.day.specs.Days.{Outcome, close, counted, done, ends, outcome, read, stepsIn}

@@ -1,6 +1,6 @@
 -- What is printed of an input is what is printed of its first record and then of the rest, wherever the input is split.
 -- Assumes nothing.
-use Rattle.records.specs.Records.{Outcome as Turned}
+use Rattle.group.specs.Groups.{Outcome as Turned}
 use Prim.Native.Nat.{ℕ, zero, suc, _+_, _-_, _≤_}
 use mathlib.Core.Path.{_≡_, refl, ap, ap₂, sym, _∙_}
 use mathlib.Core.List.{List, [], _++_, append-nil}
@@ -14,8 +14,10 @@ use lib.Seq.{drop-append-le, sets}
 use Rattle.common.proofs.TestLaws.{both, or-true, split}
 use Rattle.frame.specs.Frames.{kindIn}
 use Rattle.records.specs.Records.{recordTotal, stops}
-use Rattle.records.proofs.FollowLaws.{kind-follows, turn-follows}
-use Rattle.records.proofs.RecordLaws.{goes-some, goes-whole, turn-stops}
+use Rattle.records.proofs.FollowLaws.{kind-follows}
+use Rattle.group.proofs.FollowLaws.{turn-follows}
+use Rattle.records.proofs.RecordLaws.{goes-some, goes-whole}
+use Rattle.group.proofs.GroupLaws.{turn-stops}
 use Rattle.lines.specs.Lines.{printed}
 use Rattle.day.specs.Days.{counted, ends, lastLine, lineFor, next, output, outputs, read, stepsIn, turned}
 use Rattle.day.specs.declared.Day.{Day}

@@ -1,6 +1,6 @@
 -- Where the drill stands in its input, and what it prints next [D6 to D9].
 -- Assumes nothing.
-use Rattle.records.specs.Records.{Outcome as Turned}
+use Rattle.group.specs.Groups.{Outcome as Turned, noGroup, turn}
 use Prim.Native.Nat.{ℕ, zero, suc, _+_, _%_, _^_}
 use mathlib.Core.List.{List, [], _++_}
 use mathlib.Core.Bool.{Bool, true, false, cond, _||_}
@@ -8,7 +8,7 @@ use lib.Dec.{eqb}
 use lib.ListN.{drop, length, replicate}
 use Rattle.frame.specs.Frames.{kindIn}
 use Rattle.held.specs.Held.{limit}
-use Rattle.records.specs.Records.{noGroup, recordTotal, turn}
+use Rattle.records.specs.Records.{recordTotal}
 use Rattle.records.specs.declared.Did.{Did}
 use Rattle.records.specs.declared.Did.the-variants.{SetUp, Step, Stop}
 use Rattle.lines.specs.Lines.{Wrote, ending, printed, writing}

@@ -1,7 +1,7 @@
 // A day of the drill: where a run over the records stands, what one record does to it, and what is printed.
+use group::Group;
 use held::HELD;
 use records::Did;
-use records::Group;
 use std::num::wrapping_add_u64;
 ghost use mathlib.Core.Path.{_≡_};
 ghost use Rattle.frame.specs.Frames.{kindIn};
@@ -30,7 +30,7 @@ pub fn begin() -> Day
     ensures { λ r. ⌜ r ≡ begun ⌝ }
 {
     Day {
-        group: records::nothing(),
+        group: group::nothing(),
         offset: 0,
         steps: 0,
         over: false,

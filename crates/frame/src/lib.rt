@@ -2,7 +2,7 @@
 ghost use mathlib.Core.Path.{_≡_};
 ghost use Prim.Native.Nat.{_+_, _≤_};
 ghost use lib.Seq.{sets};
-ghost use lib.ListN.{length};
+ghost use lib.ListN.{length, take, drop};
 ghost use Rattle.frame.specs.Digits.{bytesOf, numberOf};
 ghost use Rattle.frame.specs.Frames.{told, reading, wrote, writing};
 
@@ -45,23 +45,23 @@ pub const PROPOSE: u8 = 2;
 
 pub const PROPOSE_TOTAL: usize = 9;
 
-// The number that a part's bytes are, high byte first.
-fn number(part: &[u8]) -> u32
-    requires { ⌜ length (now part) ≤ 4 ⌝ }
-    ensures { λ r. ⌜ r ≡ numberOf (now (part .entry)) ⌝ }
+// The number that `width` bytes from a place on are, high byte first.
+fn number(bytes: &[u8], at: usize, width: usize) -> u32
+    requires { ⌜ at + width ≤ length (now bytes) ⌝ }
+    requires { ⌜ width ≤ 4 ⌝ }
+    ensures { λ r. ⌜ r ≡ numberOf (take width (drop at (now (bytes .entry)))) ⌝ }
 {
     let mut value: u32 = 0;
-    for i in 0..part.len() {
-        value = value * 256 + part[i] as u32;
+    for i in 0..width {
+        value = value * 256 + bytes[at + i] as u32;
     }
     value
 }
 
-// Writes the low `width` bytes of a number from a place on, high byte first, and gives the place after them.
-fn put(buffer: &mut [u8], at: usize, width: usize, value: u32) -> usize
+// Writes the low `width` bytes of a number from a place on, high byte first.
+fn put(buffer: &mut [u8], at: usize, width: usize, value: u32)
     requires { ⌜ at + width ≤ length (now buffer) ⌝ }
-    ensures next { λ r. ⌜ r ≡ at + width ⌝ }
-    ensures wrote { λ r. ⌜ now (buffer .exit) ≡ sets (now (buffer .entry)) at (bytesOf width value) ⌝ }
+    ensures { λ _. ⌜ now (buffer .exit) ≡ sets (now (buffer .entry)) at (bytesOf width value) ⌝ }
 {
     let mut left = value;
     let mut i = width;
@@ -70,69 +70,33 @@ fn put(buffer: &mut [u8], at: usize, width: usize, value: u32) -> usize
         buffer[at + i] = (left % 256) as u8;
         left = left / 256;
     }
-    at + width
 }
 
 // The frame that bytes hold, or the answer that they hold none. It judges no value.
 pub fn read(bytes: &[u8]) -> ReadAnswer
     ensures { λ r. ⌜ told r ≡ reading (now (bytes .entry)) ⌝ }
 {
+    // The length first: a byte is read only where there is one.
     let n = bytes.len();
-    if n == 0 {
-        return ReadAnswer::NotAFrame;
-    }
-    let kind = bytes[0];
-    if kind == MULTICAST {
-        if n != MULTICAST_TOTAL {
-            return ReadAnswer::NotAFrame;
+    if n == MULTICAST_TOTAL {
+        if bytes[0] == MULTICAST {
+            return ReadAnswer::Accepted(Frame::Multicast {
+                payment: PaymentNo(number(bytes, 1, 4)),
+                destinations: bytes[5],
+            });
         }
-        return ReadAnswer::Accepted(Frame::Multicast {
-            payment: PaymentNo(number(&bytes[1..5])),
-            destinations: bytes[5],
-        });
     }
-    if kind == PROPOSE {
-        if n != PROPOSE_TOTAL {
-            return ReadAnswer::NotAFrame;
+    if n == PROPOSE_TOTAL {
+        if bytes[0] == PROPOSE {
+            return ReadAnswer::Accepted(Frame::Propose {
+                payment: PaymentNo(number(bytes, 1, 4)),
+                destinations: bytes[5],
+                source: LedgerNo(bytes[6]),
+                time: Time(number(bytes, 7, 2) as u16),
+            });
         }
-        return ReadAnswer::Accepted(Frame::Propose {
-            payment: PaymentNo(number(&bytes[1..5])),
-            destinations: bytes[5],
-            source: LedgerNo(bytes[6]),
-            time: Time(number(&bytes[7..9]) as u16),
-        });
     }
     ReadAnswer::NotAFrame
-}
-
-fn write_multicast(payment: PaymentNo, destinations: u8, buffer: &mut [u8]) -> WriteAnswer
-    ensures { λ r. ⌜ wrote r (now (buffer .exit)) ≡ writing (Frame.Multicast payment destinations) (now (buffer .entry)) ⌝ }
-{
-    if buffer.len() < MULTICAST_TOTAL {
-        return WriteAnswer::TooShort;
-    }
-    let head = put(buffer, 0, 1, MULTICAST as u32);
-    let paid = put(buffer, head, 4, payment.0);
-    WriteAnswer::Written(put(buffer, paid, 1, destinations as u32))
-}
-
-fn write_propose(
-    payment: PaymentNo,
-    destinations: u8,
-    source: LedgerNo,
-    time: Time,
-    buffer: &mut [u8],
-) -> WriteAnswer
-    ensures { λ r. ⌜ wrote r (now (buffer .exit)) ≡ writing (Frame.Propose payment destinations source time) (now (buffer .entry)) ⌝ }
-{
-    if buffer.len() < PROPOSE_TOTAL {
-        return WriteAnswer::TooShort;
-    }
-    let head = put(buffer, 0, 1, PROPOSE as u32);
-    let paid = put(buffer, head, 4, payment.0);
-    let sent = put(buffer, paid, 1, destinations as u32);
-    let from = put(buffer, sent, 1, source.0 as u32);
-    WriteAnswer::Written(put(buffer, from, 2, time.0 as u32))
 }
 
 // Writes a frame from the buffer's first byte on, or nothing where the buffer is shorter than the frame.
@@ -143,12 +107,30 @@ pub fn write(frame: Frame, buffer: &mut [u8]) -> WriteAnswer
         Frame::Multicast {
             payment,
             destinations,
-        } => write_multicast(payment, destinations, buffer),
+        } => {
+            if buffer.len() < MULTICAST_TOTAL {
+                return WriteAnswer::TooShort;
+            }
+            buffer[0] = MULTICAST;
+            put(buffer, 1, 4, payment.0);
+            buffer[5] = destinations;
+            WriteAnswer::Written(MULTICAST_TOTAL)
+        }
         Frame::Propose {
             payment,
             destinations,
             source,
             time,
-        } => write_propose(payment, destinations, source, time, buffer),
+        } => {
+            if buffer.len() < PROPOSE_TOTAL {
+                return WriteAnswer::TooShort;
+            }
+            buffer[0] = PROPOSE;
+            put(buffer, 1, 4, payment.0);
+            buffer[5] = destinations;
+            buffer[6] = source.0;
+            put(buffer, 7, 2, time.0 as u32);
+            WriteAnswer::Written(PROPOSE_TOTAL)
+        }
     }
 }

@@ -7,12 +7,12 @@ use mathlib.Core.List.{List}
 use lib.Dec.{leb}
 use Rattle.common.specs.Places.{every}
 use Rattle.common.proofs.PlaceLaws.{every-all, every-at, every-same}
-use Rattle.common.proofs.TestLaws.{and-both, and-false, and-left, and-right, same}
+use Rattle.common.proofs.TestLaws.{and-both, and-false, and-left, and-right, and-true, same}
 use Rattle.payment.specs.declared.Payment.{Payment}
-use Rattle.right.specs.Right.{apart, heardRight, lawful, notAboveClock, numberNotZero, numbersDiffer, phaseRight, right, timesDiffer}
+use Rattle.right.specs.Right.{heardRight, lawful, notAboveClock, numberNotZero, numbersDiffer, phaseRight, right, timesDiffer}
 use Rattle.held.specs.Held.{at, limit}
 use Rattle.posting.specs.Posting.{noneFree}
-use Rattle.checked.specs.Checked.{heldAll, heldAt, heldPairs, postedBelow, unusedAll}
+use Rattle.checked.specs.Checked.{heldAll, heldAt, heldPairs, heldRight, postedBelow, unusedAll}
 use Rattle.ledger.specs.Sound.{each, inRange, pairs, sound}
 use Rattle.ledger.specs.declared.Ledger.{Ledger}
 
@@ -104,7 +104,7 @@ module _ (payments : List Payment) (count : ℕ) where
 
 -- from the code's order of the clauses to that of the rules
 reorder : (range number destinations heard clock phase numbers times used free posted : Bool)
-    → range && ((number && (destinations && (heard && (clock && phase)))) && ((numbers && times) && (used && (free && posted))))
+    → range && (((number && (destinations && (heard && (clock && phase)))) && ((numbers && times) && (used && posted))) && free)
     ≡ range && (numbers && (number && (destinations && (heard && (used && (times && (clock && (phase && (free && posted)))))))))
 reorder false n d h c p m t u f b = refl
 reorder true false d h c p m t u f b = sym (and-false m)
@@ -114,7 +114,9 @@ reorder true true true true false p m t u f b = sym (simp and-false)
 reorder true true true true true false m t u f b = sym (simp and-false)
 reorder true true true true true true false t u f b = refl
 reorder true true true true true true true false u f b = sym (and-false u)
-reorder true true true true true true true true u f b = refl
+reorder true true true true true true true true false f b = refl
+reorder true true true true true true true true true true b = and-true b
+reorder true true true true true true true true true false b = and-false b
 
 module _ (l : Ledger) where
   -- the code's check of each held payment
@@ -134,14 +136,12 @@ module _ (l : Ledger) where
 
   -- the checks of the code are the clauses of soundness
   pub sound-checked : inRange l
-      && (heldAll (l .payments) (l .count) (right (l .group) (l .own .0) (l .clock .0))
-      && (heldPairs (l .payments) (l .count) apart
-      && (unusedAll (l .payments) (l .count) && (noneFree (l .payments) (l .own .0) && postedBelow (l .payments) (l .own .0)))))
+      && (heldRight (l .payments) (l .count) (l .group) (l .own .0) (l .clock .0) && noneFree (l .payments) (l .own .0))
       ≡ sound l
-  unfolding sound
+  unfolding sound heldRight
   sound-checked =
-      ap₂ (λ a b. inRange l && (a && (b && (unusedAll (l .payments) (l .count) &&
-      (noneFree (l .payments) (l .own .0) && postedBelow (l .payments) (l .own .0))))))
+      ap₂ (λ a b. inRange l && ((a && (b && (unusedAll (l .payments) (l .count) && postedBelow (l .payments) (l .own .0))))
+      && noneFree (l .payments) (l .own .0)))
       right-clauses (pairs-and (l .payments) (l .count) numbersDiffer timesDiffer)
       ∙ reorder (inRange l) (each l numberNotZero) (each l (lawful (l .group) (l .own .0))) (each l heardRight)
       (each l (notAboveClock (l .own .0) (l .clock .0))) (each l (phaseRight (l .own .0))) (pairs l numbersDiffer) (pairs l timesDiffer)

@@ -6,17 +6,17 @@ use mathlib.Core.List.{List}
 use mathlib.Core.Bool.{Bool, cond}
 use lib.ListN.{set}
 use lib.Dec.{eqb}
-use Rattle.frame.specs.Frames.{frameValues, writing}
-use Rattle.frame.specs.declared.Frame.the-variants.{Propose}
+use Rattle.frame.specs.Frames.{frameValues}
 use Rattle.frame.specs.declared.Time.{Time}
-use Rattle.ledgers.specs.Ledgers.{howMany, without}
+use Rattle.ledgers.specs.Ledgers.{howMany}
 use Rattle.payment.specs.Payments.{allHeard, hear, inPhase, lastTime, proposed, stampOf, stamped}
 use Rattle.payment.specs.declared.Payment.{Payment}
 use Rattle.held.specs.Held.{at, limit}
-use Rattle.posting.specs.Posting.{written}
+use Rattle.posting.specs.Posting.{written as posting}
 use Rattle.refusals.specs.Refusals.{incoming, isHeld, isPropose, paymentIn, placeIn}
 use Rattle.refusals.specs.declared.Incoming.{Incoming}
 use Rattle.refusals.specs.declared.Judged.{Judged}
+use Rattle.sending.specs.Sending.{recipients, written}
 use Rattle.ledger.specs.Table.{answerTo}
 use Rattle.ledger.specs.declared.Ledger.{Ledger}
 use Rattle.ledger.specs.declared.PostedLedger.{PostedLedger}
@@ -58,7 +58,7 @@ proposeRule l f = keeping l f (l .clock) (hear (paymentFor l f) (f .source .0) (
 abbrev pub afterHearing : Ledger → Incoming → Ledger
 afterHearing l f = cond (isPropose f) (proposeRule l f) (multicastRule l f)
 
--- [R31, R32] rule 3: a payment that has heard all its destinations is stamped, and a clock that is behind its stamp is put forward
+-- [R31, R32] rule 3: a payment that has heard all its destinations is stamped, and a clock behind the stamp's time is put forward
 -- (a payment stamped before never comes here: no frame of it is taken)
 unfoldable pub stampRule : Ledger → ℕ → Ledger
 stampRule l i =
@@ -77,15 +77,16 @@ stampRule l i =
 abbrev pub afterStamping : Ledger → Incoming → Ledger
 afterStamping l f = stampRule (afterHearing l f) (placeFor l f)
 
--- [R41] rule 4 comes last; what it leaves: the ledger, the number of postings, and the whole posting list
+-- what rule 4 leaves: the ledger, the number of postings, and the whole posting list
 pub record AfterPosting : Type 0 where
   pub state : Ledger
   pub count : ℕ
   pub list : List ℕ
 
+-- [R42 to R44] rule 4: all that are free are posted
 unfoldable pub postRule : Ledger → List ℕ → AfterPosting
 postRule l list =
-    let posts = written (l .payments) (l .own .0) list in
+    let posts = posting (l .payments) (l .own .0) list in
     record {
       state = record { group = l .group; own = l .own; clock = l .clock; count = l .count; payments = posts .payments };
       count = posts .count;
@@ -95,15 +96,13 @@ postRule l list =
 abbrev pub left : PostedLedger → List ℕ → AfterPosting
 left r list = record { state = r .state; count = r .count; list = list }
 
--- [R13] all destinations but this ledger; [R22] of a PROPOSE nobody
+-- [R13, R22] to whom this ledger sends
 abbrev pub recipientsOf : Ledger → Incoming → ℕ
-recipientsOf l f = cond (isPropose f) 0 (without (f .destinations) (l .own .0))
+recipientsOf l f = recipients (l .own .0) f
 
--- [R14] this ledger's PROPOSE at the front of the outgoing buffer; where nobody is to receive it, the buffer as it was [R4]
+-- [R14, R4] the outgoing buffer with what it sends: its PROPOSE, with the next own time
 abbrev pub sent : Ledger → Incoming → List ℕ → List ℕ
-sent l f outgoing =
-    cond (eqb (recipientsOf l f) 0) outgoing
-    (writing (Propose (f .payment) (f .destinations) (l .own) (newOwnTime l)) outgoing .buffer)
+sent l f outgoing = written (l .own) (newOwnTime l) f outgoing
 
 -- [R2] all that a call hands back, and the two buffers whole
 pub record Outcome : Type 0 where
@@ -156,7 +155,7 @@ keptAt l place held p =
       payments = set (l .payments) place p;
     }
 
--- [A0] a frame that is taken: rules 1 to 4
+-- [A0, R41] a frame that is taken: rules 1 to 4, posting last; [R3] a copy for each recipient
 abbrev pub taken : Ledger → Incoming → List ℕ → List ℕ → Outcome
 taken l f outgoing list =
     let after = postRule (afterStamping l f) list in

@@ -2,20 +2,17 @@
 use crate::Ledger;
 use crate::PostedLedger;
 use crate::Step;
-use frame::Frame;
 use frame::PROPOSE;
 use frame::Time;
 use held::HELD;
 use payment::Payment;
-use refusals::Incoming;
 use refusals::Judged;
 ghost use mathlib.Core.Path.{_≡_};
 ghost use lib.ListN.{length};
 ghost use Prim.Native.Nat.{_≤_, _<_};
-ghost use Rattle.payment.specs.Payments.{lastTime};
 ghost use Rattle.held.specs.Held.{limit};
 ghost use Rattle.ledger.specs.Step.{MayTake, afterHearing, keptAt, left, multicastRule, outcome};
-ghost use Rattle.ledger.specs.Step.{postRule, proposeRule, recipientsOf, sent, stampRule, taken};
+ghost use Rattle.ledger.specs.Step.{postRule, proposeRule, stampRule, taken};
 
 impl Ledger {
     // The frame's payment is kept at its place; a new one is counted.
@@ -84,34 +81,6 @@ impl Ledger {
         }
     }
 
-    // [R13, R22] The other destinations; a PROPOSE has no recipients.
-    fn recipients(self, f: Incoming) -> u8
-        ensures { λ r. ⌜ r ≡ recipientsOf self f ⌝ }
-    {
-        if f.kind == PROPOSE {
-            return 0;
-        }
-        ledgers::others(f.destinations, self.own)
-    }
-
-    // [R14] Writes this ledger's PROPOSE, where there are recipients.
-    fn send(self, f: Incoming, recipients: u8, outgoing: &mut [u8])
-        requires { ⌜ (recipients ≡ recipientsOf self f) × (self .clock .0 ≤ lastTime) ⌝ }
-        ensures { λ r. ⌜ now (outgoing .exit) ≡ sent self f (now (outgoing .entry)) ⌝ }
-    {
-        if recipients != 0 {
-            let payment = f.payment;
-            let source = self.own;
-            let propose = Frame::Propose {
-                payment: payment,
-                destinations: f.destinations,
-                source: source,
-                time: Time(self.clock.0 + 1),
-            };
-            frame::write(propose, outgoing);
-        }
-    }
-
     // Rules 1 and 2.
     fn after_hearing(mut self, judged: Judged) -> Ledger
         requires { ⌜ MayTake self judged ⌝ }
@@ -129,8 +98,8 @@ impl Ledger {
         ensures { λ r. ⌜ outcome r (now (outgoing .exit)) (now (postings .exit)) ≡ taken self (judged .frame) (now (outgoing .entry)) (now (postings .entry)) ⌝ }
     {
         let f = judged.frame;
-        let recipients = self.recipients(f);
-        self.send(f, recipients, outgoing);
+        let time = Time(self.clock.0 + 1);
+        let recipients = sending::send(self.own, time, f, outgoing);
         let settled = self.after_hearing(judged)
             .stamp(judged.place)
             .post(postings);

@@ -1,7 +1,7 @@
--- A record does the same whatever follows it.
+-- A whole record reads the same, whatever follows it.
 -- Assumes nothing.
 use Prim.Native.Nat.{ℕ, _+_, _≤_}
-use mathlib.Core.Path.{_≡_, refl, ap, ap₂, sym, _∙_}
+use mathlib.Core.Path.{_≡_, ap, ap₂, sym, _∙_}
 use mathlib.Core.List.{List, _∷_, _++_}
 use mathlib.Core.Bool.{Bool, false, cond, not, _||_}
 use native.Mathlib.Omega.{arith}
@@ -13,18 +13,16 @@ use Rattle.common.proofs.TestLaws.{split}
 use Rattle.frame.specs.Digits.{sum}
 use Rattle.frame.specs.Frames.{body, kindIn, known, multicast, propose}
 use Rattle.ledgers.specs.Ledgers.{isGroup, isLedgerOf}
-use Rattle.records.specs.Records.{frameIn, recordTotal, records, secondIn, started, stepped, stops, turn}
-use Rattle.records.specs.declared.Did.the-variants.{SetUp}
-use Rattle.records.specs.declared.Group.{Group}
+use Rattle.records.specs.Records.{frameIn, recordTotal, records, secondIn, stops}
 use Rattle.records.proofs.RecordLaws.{frame-multicast, frame-propose, goes-some, stops-unknown, total-propose}
-use Rattle.records.proofs.RecordLaws.{total-second, turn-starts, turn-steps, turn-stops}
+use Rattle.records.proofs.RecordLaws.{total-second}
 
 -- the parts of a record, whatever follows
 module _ (bytes more : List ℕ) where
   pub kind-follows : 1 ≤ length bytes → kindIn (bytes ++ more) ≡ kindIn bytes
   kind-follows h = List·getD-append bytes more 0 0 (omega arith)
 
-  second-follows : 2 ≤ length bytes → secondIn (bytes ++ more) ≡ secondIn bytes
+  pub second-follows : 2 ≤ length bytes → secondIn (bytes ++ more) ≡ secondIn bytes
   second-follows h = List·getD-append bytes more 0 1 (omega arith)
 
   body-follows : (n : ℕ) → 2 + n ≤ length bytes → take n (drop 2 (bytes ++ more)) ≡ take n (drop 2 bytes)
@@ -33,12 +31,12 @@ module _ (bytes more : List ℕ) where
       ∙ take-append-le n (drop 2 bytes) more (omega (arith, length-drop 2 bytes))
 
 -- whether a record ends the run, from its kind, the byte after it, and whether it is cut short
-abbrev verdict : Group → ℕ → ℕ → Bool → Bool
-verdict g kind second short =
+abbrev verdict : ℕ → ℕ → ℕ → Bool → Bool
+verdict n kind second short =
     not (known records kind)
-    || (short || cond (eqb kind 16) (not (isGroup second)) (not (isLedgerOf (g .count) second)))
+    || (short || cond (eqb kind 16) (not (isGroup second)) (not (isLedgerOf n second)))
 
-module _ (g : Group) (bytes more list : List ℕ) (some : 1 ≤ length bytes) (whole : recordTotal (kindIn bytes) ≤ length bytes) where
+module _ (n : ℕ) (bytes more : List ℕ) (some : 1 ≤ length bytes) (whole : recordTotal (kindIn bytes) ≤ length bytes) where
   kind : kindIn (bytes ++ more) ≡ kindIn bytes
   kind = kind-follows bytes more some
 
@@ -50,44 +48,27 @@ module _ (g : Group) (bytes more list : List ℕ) (some : 1 ≤ length bytes) (w
       le-ltb (length (bytes ++ more)) (recordTotal (kindIn (bytes ++ more))) (omega (arith, same-total, length-append bytes more))
       ∙ sym (le-ltb (length bytes) (recordTotal (kindIn bytes)) whole)
 
-  stops-follows : stops (g .count) (bytes ++ more) ≡ stops (g .count) bytes
+  pub stops-follows : stops n (bytes ++ more) ≡ stops n bytes
   unfolding stops
   stops-follows =
       split (eqb (recordTotal (kindIn bytes)) 0)
-      (λ t. let none = eqb-true (recordTotal (kindIn bytes)) 0 t in stops-unknown (g .count) (bytes ++ more) (same-total ∙ none)
-      ∙ sym (stops-unknown (g .count) bytes none))
+      (λ t. let none = eqb-true (recordTotal (kindIn bytes)) 0 t in stops-unknown n (bytes ++ more) (same-total ∙ none)
+      ∙ sym (stops-unknown n bytes none))
       (λ t. let two = total-second (kindIn bytes) (eqb-false (recordTotal (kindIn bytes)) 0 t) in
-      ap (λ k. verdict g k (secondIn (bytes ++ more)) (ltb (length (bytes ++ more)) (recordTotal (kindIn (bytes ++ more))))) kind
-      ∙ ap₂ (λ x y. verdict g (kindIn bytes) x y) (second-follows bytes more (omega arith)) neither-short)
+      ap (λ k. verdict n k (secondIn (bytes ++ more)) (ltb (length (bytes ++ more)) (recordTotal (kindIn (bytes ++ more))))) kind
+      ∙ ap₂ (λ x y. verdict n (kindIn bytes) x y) (second-follows bytes more (omega arith)) neither-short)
 
   -- the frame of a step record that goes on
-  frame-follows : stops (g .count) bytes ≡ false → (kindIn bytes ≡ 16 → ⊥) → frameIn (bytes ++ more) ≡ frameIn bytes
+  pub frame-follows : stops n bytes ≡ false → (kindIn bytes ≡ 16 → ⊥) → frameIn (bytes ++ more) ≡ frameIn bytes
   unfolding recordTotal known body sum
-  frame-follows go n =
+  frame-follows go step =
       split (eqb (kindIn bytes) 17)
       (λ t. let e = eqb-true (kindIn bytes) 17 t in
       let seven : recordTotal (kindIn bytes) ≡ 7 = ap recordTotal e in
       frame-multicast (bytes ++ more) (kind ∙ e) ∙ ap (λ l. multicast .kind ∷ l) (body-follows bytes more 5 (omega arith))
       ∙ sym (frame-multicast bytes e))
       (λ t. let e = eqb-false (kindIn bytes) 17 t in
-      let some = goes-some (g .count) bytes go in
-      let ten = total-propose (kindIn bytes) n e (λ z. omega arith) in
+      let some = goes-some n bytes go in
+      let ten = total-propose (kindIn bytes) step e (λ z. omega arith) in
       frame-propose (bytes ++ more) (λ q. e (sym kind ∙ q)) ∙ ap (λ l. propose .kind ∷ l) (body-follows bytes more 8 (omega arith))
       ∙ sym (frame-propose bytes e))
-
-  -- whatever follows a whole record, it does the same
-  pub turn-follows : turn g (bytes ++ more) list ≡ turn g bytes list
-  turn-follows =
-      split (stops (g .count) bytes)
-      (λ t. turn-stops g (bytes ++ more) list (stops-follows ∙ t) ∙ sym (turn-stops g bytes list t))
-      (λ t. let some = goes-some (g .count) bytes t in
-      let second = second-follows bytes more (omega arith) in
-      split (eqb (kindIn bytes) 16)
-      (λ u. let e = eqb-true (kindIn bytes) 16 u in
-      turn-starts g (bytes ++ more) list (stops-follows ∙ t) (kind ∙ e)
-      ∙ ap (λ n. record { group = started n; did = SetUp n; list = list }) second
-      ∙ sym (turn-starts g bytes list t e))
-      (λ u. let n = eqb-false (kindIn bytes) 16 u in
-      turn-steps g (bytes ++ more) list (frameIn bytes) (stops-follows ∙ t) (λ q. n (sym kind ∙ q)) (frame-follows t n)
-      ∙ ap (λ k. stepped g k (frameIn bytes) list) second
-      ∙ sym (turn-steps g bytes list (frameIn bytes) t n refl)))

@@ -1,6 +1,6 @@
 use mathlib.Core.Path.{ap}
 use mathlib.Core.Bool.{false}
-use Rattle.records.specs.declared.Group.{Group}
+use Rattle.group.specs.declared.Group.{Group}
 use Rattle.day.specs.declared.Day.{Day}
 use borrow.Author.Needs.{needs}
 use Rattle.day.proofs.begin.Statement.{statement}

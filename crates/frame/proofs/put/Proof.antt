@@ -62,7 +62,7 @@ returns : tie.Need-returns Inv-loop μ-loop
 returns c =
     let head = c .before .loop in
     let none : head .i ≡ 0 = omega arith in
-    (refl, rw (none, add-zero, sub-zero) at (head .inv .2))
+    rw (none, add-zero, sub-zero) at (head .inv .2)
 
 pub put-spec : {M : Type 1} → statement M
 put-spec =
@@ -77,6 +77,5 @@ put-spec =
     slice-write-buffer
     (λ c. search needs)
     loop-again
-    (λ c. search needs)
     same-length
     returns)

@@ -1,7 +1,7 @@
 use Prim.Native.Nat.{_+_}
 use mathlib.Core.Path.{ap, sym, _∙_}
 use denote.Ref.{now}
-use Rattle.records.specs.Records.{outcome}
+use Rattle.group.specs.Groups.{outcome}
 use Rattle.day.specs.Days.{counted}
 use Rattle.day.proofs.DayLaws.{done-by-parts, read-done, read-over}
 use borrow.Author.Needs.{needs}

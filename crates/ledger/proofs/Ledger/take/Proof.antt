@@ -8,11 +8,6 @@ use Rattle.ledger.specs.Step.{postRule, stampRule}
 use Rattle.ledger.proofs.Ledger.take.Statement.{statement}
 use Rattle.ledger.proofs.Ledger.take.Tie as tie
 
-send-requires : tie.Need-send-requires
-send-requires c κs =
-    let pre = c .before .before .before .before .before .pre in
-    (c .before .recipients .ensures, pre .0 .clock)
-
 stamp-requires : tie.Need-stamp-requires
 stamp-requires c κs =
     let c₆ = c .before .before .before .before .before .before in
@@ -25,17 +20,17 @@ returns c =
     let c₄ = c .before .before .before .before in
     let c₆ = c₄ .before .before in
     let c₁₀ = c₆ .before .before .before .before in
-    let c₁₂ = c₁₀ .before .before in
-    let start = c₁₂ .before .before .before .before in
+    let start = c₁₀ .before .before .before .before .before .before in
     let stamped = c₆ .stamp .ensures ∙ ap₂ stampRule (c₆ .before .after-hearing .ensures) (start .pre .0 .place) in
     let settled = c₄ .post .ensures ∙ ap (λ l. postRule l (now (start .args .postings))) stamped in
+    let recipients = c₁₀ .send .ensures .0 in
     λ k. record {
       state = settled k .state;
       answer = 0;
-      recipients = c₁₂ .recipients .ensures k;
-      copies = (c .how-many .ensures ∙ ap howMany (c₁₂ .recipients .ensures)) k;
+      recipients = recipients k;
+      copies = (c .how-many .ensures ∙ ap howMany recipients) k;
       postings = settled k .count;
-      outgoing = c₁₀ .send .ensures k;
+      outgoing = c₁₀ .send .ensures .1 k;
       list = settled k .list;
     }
 
@@ -43,8 +38,8 @@ pub take-spec : {M : Type 1} → statement M
 take-spec =
     tie.close
     (tie.spec
+    (λ c. search needs)
     (λ c κs. search needs)
-    send-requires
     (λ c κs. search needs)
     stamp-requires
     (λ c κs. search needs)

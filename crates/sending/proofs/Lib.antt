@@ -1,0 +1,3 @@
+-- Laws of what a ledger sends.
+-- Assumes nothing.
+pub mod SendLaws
