@@ -1,17 +1,17 @@
 -- The order of postings: one at every ledger, and without gaps.
 -- Assumes nothing.
 use Rattle.common.proofs.PlaceLaws.{by-place}
-use Prim.Native.Nat.{ℕ, _<_, _≤_}
-use mathlib.Core.Path.{_≡_, refl, ap, sym, _∙_, subst}
+use Prim.Native.Nat.{ℕ}
+use mathlib.Core.Path.{_≡_, refl, ap, ap₂, sym, _∙_, subst}
 use mathlib.Core.List.{List}
-use mathlib.Core.Bool.{true}
-use mathlib.Core.Logic.{_⊎_, ⊎-elim}
+use mathlib.Core.Bool.{true, false}
+use mathlib.Core.Logic.{⊎-elim}
 use native.Mathlib.Omega.{arith}
-use borrow.Author.Tests.{eqb-false, eqb-true, ltb-true}
+use borrow.Author.Tests.{eqb-false, eqb-true}
 use Rattle.common.specs.Places.{In}
 use Rattle.common.proofs.TestLaws.{both, or-cases, split}
 use Rattle.ledgers.specs.Ledgers.{has}
-use Rattle.payment.specs.Payments.{hasStamp, heardFrom, isPosted, isProposed, isStamped, isWaiting, stampOf, timeFrom}
+use Rattle.payment.specs.Payments.{hasStamp, heardFrom, isPosted, isProposed, isStamped, isWaiting, proposal, stampOf, timeFrom}
 use Rattle.right.specs.Right.{phaseRight}
 use Rattle.payment.specs.Stamps.{below}
 use Rattle.payment.specs.declared.Stamp.{Stamp}
@@ -29,8 +29,12 @@ use Rattle.agreement.proofs.Invariant.{Kept}
 use Rattle.agreement.proofs.Lists.{precedes-either}
 use Rattle.agreement.proofs.Logs.{Posted}
 use Rattle.agreement.proofs.Stamps.{all-here, goes-here, one-stamp, time-here}
-use Rattle.payment.proofs.GreatestLaws.{proposal-early}
-use Rattle.payment.proofs.StampLaws.{below-not-later, below-once}
+use Rattle.payment.proofs.GreatestLaws.{stamp-highest}
+use Rattle.payment.proofs.StampLaws.{below-between, below-once}
+
+-- time t, proposed by ledger b
+abbrev proposed-by : ℕ → ℕ → Stamp
+proposed-by b t = record { time = record { 0 = t }; ledger = record { 0 = b } }
 
 module _ (n : ℕ) (table : List Entry) (law : Lawful n table) (w : World) (k : Kept n table w) where
   pub earlier : (j x y : ℕ) → OfGroup n j → Precedes x y (w .logs j) → Earlier (w .ledgers j) x y
@@ -56,9 +60,9 @@ module _ (n : ℕ) (table : List Entry) (law : Lawful n table) (w : World) (k : 
       (λ q. absurd (not-both i j x y hi hj (earlier i x y hi p) (earlier j y x hj q)))
       (precedes-either x y (w .logs j) inx iny e))
 
-  -- a payment for ledger b that is stamped at ledger j has ledger b's own time there and at j
+  -- a payment for ledger b that is stamped at ledger j has ledger b's own time there and at j, and its stamp is not below that proposal
   own-of : (j b x : ℕ) (s : Stamp) → OfGroup n j → OfGroup n b → Addressed table b x → HasStamp (w .ledgers j) x s
-      → (d : ℕ) × (t : ℕ) × Heard (w .ledgers b) x d b t × (t ≤ s .time .0)
+      → (d : ℕ) × (t : ℕ) × Heard (w .ledgers b) x d b t × (below s (proposed-by b t) ≡ false)
   own-of j b x s hj hb e u =
       let p = at (w .ledgers j .payments) (u .at-place) in
       let same : entryOf x (p .destinations) ≡ e .entry
@@ -70,7 +74,7 @@ module _ (n : ℕ) (table : List Entry) (law : Lawful n table) (w : World) (k : 
         p .destinations,
         timeFrom p b,
         k .agrees .agreed j b x _ _ (hj .0) (hj .1) (hb .0) (hb .1) there,
-        subst (λ r. timeFrom p b ≤ r .time .0) (u .so .1) (proposal-early p b (hb .0)
+        subst (λ r. below r (proposal (p .times) b) ≡ false) (u .so .1) (stamp-highest p b (hb .0)
             (let few = law .ledgers .1 in let last = hb .1 in omega arith) is-heard),
       )
 
@@ -94,13 +98,12 @@ module _ (n : ℕ) (table : List Entry) (law : Lawful n table) (w : World) (k : 
       split (isWaiting p)
       (λ t. both phase-right (waiting-own (l .own .0) p (eqb-true _ _ t) own-heard))
       (λ t. split (isProposed p)
-      (λ q. let late = ltb-true _ _ (sym (after-proposed (l .own .0) (stampOf (at (l .payments) (y-at .at-place))) p (eqb-true _ _ q))
-      ∙ after-y) in
-      let late′ : r .time .0 < own .1 = subst (λ f. f .time .0 < own .1) y-stamp
-      (subst (λ h. stampOf (at (l .payments) (y-at .at-place)) .time .0 < h) (ap (timeFrom p) (well .own) ∙ z .so .time) late) in
-      let early = own .3 in
-      let not-later = below-not-later s r lt in
-      absurd (omega (arith, late′, early, not-later)))
+      (λ q. let late = sym (after-proposed (l .own .0) (stampOf (at (l .payments) (y-at .at-place))) p (eqb-true _ _ q)) ∙ after-y in
+      let mine : proposal (p .times) (l .own .0) ≡ proposed-by b (own .1) =
+      ap (proposal (p .times)) (well .own) ∙ ap (proposed-by b) (z .so .time) in
+      ⊎-elim (λ a. both a (own .3))
+      (λ a. absurd (below-once r (proposed-by b (own .1)) (sym (ap₂ below y-stamp mine) ∙ late) a))
+      (below-between s (proposed-by b (own .1)) r lt))
       (λ q. split (hasStamp p)
       (λ a. ⊎-elim
       (λ two. let x-here : HasStamp (w .ledgers b) x (stampOf p) = record {

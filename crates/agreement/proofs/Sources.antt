@@ -7,7 +7,7 @@ use mathlib.Core.Bool.{true, not, _&&_}
 use mathlib.Core.Logic.{_⊎_}
 use native.Mathlib.Omega.{arith}
 use lib.Dec.{ltb}
-use borrow.Author.Tests.{ltb-false, ltb-true, not-true}
+use borrow.Author.Tests.{ltb-false, not-true}
 use Rattle.common.specs.Places.{In}
 use Rattle.common.proofs.TestLaws.{and-go, and-right}
 use Rattle.payment.specs.Payments.{hasStamp, heardFrom, isPosted, proposal, stampOf, timeFrom}
@@ -113,16 +113,16 @@ module _ (n : ℕ) (table : List Entry) (cs : List Call) (run : Run n table cs) 
             (x .used)))));
       }
 
-  -- 003: a posted stamp's time is below the own time of every payment still proposed
+  -- 003: a posted stamp is below the own proposal of every payment still proposed
   pub valid-delivery : (p i j : ℕ) → OfGroup n p → i < limit → j < limit → isPosted (at (after n cs .ledgers p .payments) i) ≡ true
       → at (after n cs .ledgers p .payments) j .phase ≡ 1
-      → stampOf (at (after n cs .ledgers p .payments) i) .time .0 < timeFrom (at (after n cs .ledgers p .payments) j) p
+      → below (stampOf (at (after n cs .ledgers p .payments) i)) (proposal (at (after n cs .ledgers p .payments) j .times) p) ≡ true
   valid-delivery p i j h hi hj posted proposed =
       let l = after n cs .ledgers p in
       let well = k .agrees .well p (h .0) (h .1) in
-      subst (λ q. stampOf (at (l .payments) i) .time .0 < timeFrom (at (l .payments) j) q) (well .own)
-      (ltb-true _ _ (sym (after-proposed (l .own .0) (stampOf (at (l .payments) i)) (at (l .payments) j) proposed)
-      ∙ posted-at (l .payments) (l .own .0) (clauses l (well .is-sound) .kept .posted) i j hi hj posted))
+      subst (λ q. below (stampOf (at (l .payments) i)) (proposal (at (l .payments) j .times) q) ≡ true) (well .own)
+      (sym (after-proposed (l .own .0) (stampOf (at (l .payments) i)) (at (l .payments) j) proposed)
+      ∙ posted-at (l .payments) (l .own .0) (clauses l (well .is-sound) .kept .posted) i j hi hj posted)
 
   -- 003: no clock passes its bound
   pub bounded-clock : (p : ℕ) → OfGroup n p → after n cs .ledgers p .clock .0 ≤ n * limit

@@ -103,8 +103,8 @@ caseL =
     ∷ ledger 2 gets MULTICAST 7 to 3 ⇒ answer 0 clock 2 bytes PROPOSE 7 to 3 from 2 time 2 recipients 1 copies 1
     ∷ ledger 1 gets PROPOSE 7 to 3 from 2 time 2 ⇒ answer 0 clock 2
     ∷ ledger 1 gets PROPOSE 9 to 3 from 2 time 1 ⇒ answer 0 clock 2 posts (9 ∷ 7 ∷ [])
-    ∷ ledger 2 gets PROPOSE 9 to 3 from 1 time 2 ⇒ answer 0 clock 2
-    ∷ ledger 2 gets PROPOSE 7 to 3 from 1 time 1 ⇒ answer 0 clock 2 posts (9 ∷ 7 ∷ [])
+    ∷ ledger 2 gets PROPOSE 9 to 3 from 1 time 2 ⇒ answer 0 clock 2 posts (9 ∷ [])
+    ∷ ledger 2 gets PROPOSE 7 to 3 from 1 time 1 ⇒ answer 0 clock 2 posts (7 ∷ [])
     ∷ [])
 
 unfoldable pub table : List Case

@@ -4,10 +4,9 @@ use Prim.Native.Nat.{ℕ}
 use mathlib.Core.Path.{_≡_}
 use mathlib.Core.Bool.{true, not, _||_}
 use native.Mathlib.Omega.{arith}
-use lib.Dec.{ltb}
 use borrow.Author.Tests.{eq-eqb, ne-eqb}
 use Rattle.common.proofs.TestLaws.{and-true}
-use Rattle.payment.specs.Payments.{isProposed, stampOf, timeFrom}
+use Rattle.payment.specs.Payments.{isProposed, proposal, stampOf}
 use Rattle.payment.specs.Stamps.{below}
 use Rattle.payment.specs.declared.Payment.{Payment}
 use Rattle.payment.specs.declared.Stamp.{Stamp}
@@ -18,7 +17,7 @@ module _ (own : ℕ) (stamp : Stamp) (p : Payment) where
   unfolding comesAfter
   after-stamped e = simp (eq-eqb _ _ e, ne-eqb (p .phase) 1 (λ z. omega arith)) (and-true (below stamp (stampOf p)))
 
-  pub after-proposed : p .phase ≡ 1 → comesAfter own stamp p ≡ ltb (stamp .time .0) (timeFrom p own)
+  pub after-proposed : p .phase ≡ 1 → comesAfter own stamp p ≡ below stamp (proposal (p .times) own)
   unfolding comesAfter
   after-proposed e = simp (eq-eqb _ _ e, ne-eqb (p .phase) 2 (λ z. omega arith))
 
@@ -27,6 +26,6 @@ module _ (own : ℕ) (stamp : Stamp) (p : Payment) where
   after-other n m = simp (ne-eqb _ _ n, ne-eqb _ _ m)
 
   -- of any payment that is not stamped
-  pub after-unstamped : (p .phase ≡ 2 → ⊥) → comesAfter own stamp p ≡ not (isProposed p) || ltb (stamp .time .0) (timeFrom p own)
+  pub after-unstamped : (p .phase ≡ 2 → ⊥) → comesAfter own stamp p ≡ not (isProposed p) || below stamp (proposal (p .times) own)
   unfolding comesAfter
   after-unstamped n = simp (ne-eqb _ _ n)

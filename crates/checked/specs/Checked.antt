@@ -5,7 +5,7 @@ use mathlib.Core.List.{List}
 use mathlib.Core.Bool.{Bool, not, _&&_, _||_}
 use lib.Dec.{leb, ltb}
 use Rattle.common.specs.Places.{every}
-use Rattle.payment.specs.Payments.{isPosted, isProposed, isStamped, stampOf, timeFrom}
+use Rattle.payment.specs.Payments.{isPosted, isProposed, isStamped, proposal, stampOf}
 use Rattle.right.specs.Right.{apart, right, unused}
 use Rattle.payment.specs.Stamps.{below}
 use Rattle.payment.specs.declared.Payment.{Payment}
@@ -36,11 +36,11 @@ unusedAt payments count i = ltb i count || unused (at payments i)
 abbrev pub unusedAll : List Payment → ℕ → Bool
 unusedAll payments count = every limit (unusedAt payments count)
 
--- [S10, S11] a payment may stand unposted beside a posted stamp: if it is stamped, its stamp is higher; if it is proposed, its own time
--- is later than the time in the posted stamp; of any other nothing is asked
+-- [S10, S11] a payment may stand unposted beside a posted stamp: if it is stamped, its stamp is higher; if it is proposed, its own
+-- proposal is higher; of any other nothing is asked
 unfoldable pub comesAfter : ℕ → Stamp → Payment → Bool
 comesAfter own stamp p =
-    (not (isStamped p) || below stamp (stampOf p)) && (not (isProposed p) || ltb (stamp .time .0) (timeFrom p own))
+    (not (isStamped p) || below stamp (stampOf p)) && (not (isProposed p) || below stamp (proposal (p .times) own))
 
 -- where p is posted, every payment comes after it
 abbrev pub belowAll : List Payment → ℕ → Payment → Bool

@@ -74,7 +74,7 @@ fn comes_after(p: Payment, own: LedgerNo, stamp: Stamp) -> bool
     if p.phase == payment::STAMPED {
         return stamp.is_below(p.stamp());
     }
-    (p.phase != payment::PROPOSED) | (stamp.time.0 < payment::time_in(times, own).0)
+    (p.phase != payment::PROPOSED) | stamp.is_below(payment::proposal(times, own))
 }
 
 // Whether every payment comes after this one, where it is posted.

@@ -1,17 +1,17 @@
 -- The greatest proposal is not below any that was heard, and its time is lawful where theirs are.
 -- Assumes nothing.
-use Prim.Native.Nat.{ℕ, zero, suc, _+_, _*_, _<_, _≤_}
+use Prim.Native.Nat.{ℕ, zero, suc, _<_, _≤_}
 use mathlib.Core.Path.{_≡_, refl, ap, ap₂, sym, _∙_, subst}
 use mathlib.Core.List.{List}
 use mathlib.Core.Bool.{true, false, cond, _&&_}
 use native.Mathlib.Nat.{le-of-lt, le-refl, le-trans}
 use native.Mathlib.Omega.{arith}
-use borrow.Author.Tests.{ltb-false, ltb-true}
+use borrow.Author.Tests.{le-ltb, ltb-false, ltb-true}
 use Rattle.common.proofs.PlaceLaws.{last-or-before}
 use Rattle.common.proofs.TestLaws.{and-go, and-left, and-right, split}
 use Rattle.frame.specs.declared.Time.{Time}
 use Rattle.ledgers.specs.Ledgers.{has}
-use Rattle.payment.specs.Payments.{greatest, heardFrom, proposal, stampOf, timeFrom, timeIn}
+use Rattle.payment.specs.Payments.{greatest, heardFrom, proposal, stampOf, timeIn}
 use Rattle.payment.specs.Stamps.{below}
 use Rattle.payment.specs.declared.Payment.{Payment}
 use Rattle.payment.specs.declared.Stamp.{Stamp}
@@ -70,14 +70,13 @@ module _ (times : List Time) (heard : ℕ) where
   greatest-none (suc n) =
       next (λ s. s .ledger .0 ≡ 0 → rank s ≡ 0) n (λ t e. absurd (omega arith)) (λ t e. greatest-none n e)
 
--- a proposal's time is not above the stamp's
-pub proposal-early : (p : Payment) (q : ℕ) → 1 ≤ q → q ≤ 8 → heardFrom p q ≡ true → timeFrom p q ≤ stampOf p .time .0
-proposal-early p zero h₁ h₈ e = absurd (omega arith)
-proposal-early p (suc q) h₁ h₈ e =
-    let top : timeFrom p (suc q) * 256 + suc q ≤ stampOf p .time .0 * 256 + stampOf p .ledger .0 = greatest-above (p .times)
-    (p .heard) 8 (omega arith) q (omega arith) e in
+-- a payment's stamp is not below a proposal that was heard
+pub stamp-highest : (p : Payment) (k : ℕ) → 1 ≤ k → k ≤ 8 → heardFrom p k ≡ true → below (stampOf p) (proposal (p .times) k) ≡ false
+stamp-highest p zero h₁ h₈ e = absurd (omega arith)
+stamp-highest p (suc k) h₁ h₈ e =
     let few : stampOf p .ledger .0 ≤ 8 = greatest-ledger (p .times) (p .heard) 8 in
-    omega (arith, top, few)
+    below-rank (stampOf p) (proposal (p .times) (suc k)) (omega arith) (omega arith)
+    ∙ le-ltb _ _ (greatest-above (p .times) (p .heard) 8 (omega arith) k (omega arith) e)
 
 -- the greatest proposal goes by the heard ledgers' times alone
 pub greatest-same : (ts us : List Time) (heard n : ℕ) → ((k : ℕ) → k < n → has heard (suc k) ≡ true → timeIn ts (suc k) ≡ timeIn us (suc k))

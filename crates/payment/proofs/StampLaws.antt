@@ -57,8 +57,21 @@ below-once a b p q =
     (λ x. let z = x .0 in let u = x .1 in ⊎-elim (λ y. omega (arith, z, y)) (λ y. let v = y .1 in omega (arith, u, v)) (below-says b a q))
     (below-says a b p)
 
-pub below-not-later : (a b : Stamp) → below a b ≡ true → a .time .0 ≤ b .time .0
-below-not-later a b p = ⊎-elim (λ x. omega (arith, x)) (λ x. let z = x .0 in omega (arith, z)) (below-says a b p)
+-- any stamp is above the lower of two, or below the higher
+pub below-between : (a b c : Stamp) → below a c ≡ true → (below a b ≡ true) ⊎ (below b c ≡ true)
+below-between a b c e =
+    split (ltb (a .time .0) (b .time .0)) (λ t. inl (below-time a b (ltb-true _ _ t)))
+    (λ t. split (ltb (b .time .0) (c .time .0)) (λ u. inr (below-time b c (ltb-true _ _ u)))
+    (λ u. let x = ltb-false (a .time .0) (b .time .0) t in
+    let y = ltb-false (b .time .0) (c .time .0) u in
+    ⊎-elim (λ z. absurd (omega (arith, x, y, z))) (λ z. let p = z .0 in tie (omega (arith, x, y, p)) (omega (arith, x, y, p)) (z .1))
+    (below-says a c e)))
+  where
+    tie : a .time .0 ≡ b .time .0 → b .time .0 ≡ c .time .0 → a .ledger .0 < c .ledger .0 → (below a b ≡ true) ⊎ (below b c ≡ true)
+    tie p q h =
+        split (ltb (a .ledger .0) (b .ledger .0)) (λ t. inl (below-tie a b p ∙ t))
+        (λ t. let x = ltb-false (a .ledger .0) (b .ledger .0) t in
+        inr (below-tie b c q ∙ lt-ltb (b .ledger .0) (c .ledger .0) (omega (arith, x, h))))
 
 -- of two stamps that differ one is below the other
 pub below-or : (a b : Stamp) → (a ≡ b → ⊥) → (below a b ≡ true) ⊎ (below b a ≡ true)

@@ -4,7 +4,7 @@ use frame::PaymentNo;
 use frame::Time;
 ghost use mathlib.Core.Path.{_≡_};
 ghost use Prim.Native.Nat.{max};
-ghost use Rattle.payment.specs.Payments.{greatest, hasProposal, hear, newPayment, stampOf, timeIn};
+ghost use Rattle.payment.specs.Payments.{greatest, hasProposal, hear, newPayment, proposal, stampOf, timeIn};
 ghost use Rattle.payment.specs.Stamps.{below};
 
 // Phases.
@@ -69,8 +69,18 @@ pub fn time_in(times: [Time; 8], ledger: LedgerNo) -> Time
     times[(k - 1) as usize]
 }
 
+// [N4] A ledger's proposal, as a stamp.
+pub fn proposal(times: [Time; 8], ledger: LedgerNo) -> Stamp
+    ensures { λ r. ⌜ r ≡ proposal times (ledger .0) ⌝ }
+{
+    Stamp {
+        time: time_in(times, ledger),
+        ledger: ledger,
+    }
+}
+
 // [R31, X3] Stamp picking: the greatest of the proposals heard.
-pub fn pick(times: [Time; 8], heard: u8) -> Stamp
+fn pick(times: [Time; 8], heard: u8) -> Stamp
     ensures { λ r. ⌜ r ≡ greatest times heard 8 ⌝ }
 {
     let mut best = Stamp {
@@ -80,10 +90,7 @@ pub fn pick(times: [Time; 8], heard: u8) -> Stamp
     for k in 0..ledgers::MOST {
         let ledger = LedgerNo(k + 1);
         if ledgers::among(heard, ledger) {
-            let next = Stamp {
-                time: time_in(times, ledger),
-                ledger: ledger,
-            };
+            let next = proposal(times, ledger);
             if best.is_below(next) {
                 best = next;
             }

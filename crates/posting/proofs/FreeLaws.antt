@@ -5,13 +5,12 @@ use mathlib.Core.Path.{_≡_, ap, sym, _∙_}
 use mathlib.Core.List.{List}
 use mathlib.Core.Bool.{true, false, not, _&&_}
 use native.Mathlib.Numerals.{add-one}
-use lib.Dec.{leb}
-use borrow.Author.Tests.{eq-eqb, ne-eqb, not-true}
+use borrow.Author.Tests.{eq-eqb, eqb-true, ne-eqb, not-false, not-true}
 use Rattle.common.specs.Order.{least}
 use Rattle.common.proofs.OrderLaws.{least-keep, least-less, least-only, least-skip}
 use Rattle.common.proofs.PlaceLaws.{any-at, any-none, any-not}
-use Rattle.common.proofs.TestLaws.{and-false, and-go, and-stop}
-use Rattle.payment.specs.Payments.{isStamped, stampOf, timeFrom}
+use Rattle.common.proofs.TestLaws.{and-false, and-go, and-left, and-right, and-stop}
+use Rattle.payment.specs.Payments.{isProposed, isStamped, proposal, stampOf}
 use Rattle.payment.specs.Stamps.{below}
 use Rattle.payment.specs.declared.Payment.{Payment}
 use Rattle.payment.specs.declared.Stamp.{Stamp}
@@ -23,14 +22,28 @@ module _ (own : ℕ) (stamp : Stamp) (p : Payment) where
   unfolding holdsBack
   back-other n = and-stop _ (ne-eqb _ _ n)
 
-  pub back-proposed : p .phase ≡ 1 → holdsBack own stamp p ≡ leb (timeFrom p own) (stamp .time .0)
+  pub back-proposed : p .phase ≡ 1 → holdsBack own stamp p ≡ below (proposal (p .times) own) stamp
   unfolding holdsBack
   back-proposed e = and-go _ (eq-eqb _ _ e)
+
+  pub back-says : holdsBack own stamp p ≡ true → (p .phase ≡ 1) × (below (proposal (p .times) own) stamp ≡ true)
+  unfolding holdsBack
+  back-says e = (eqb-true _ _ (and-left (isProposed p) _ e), and-right (isProposed p) _ e)
 
 module _ (payments : List Payment) (own : ℕ) where
   pub free-other : (i : ℕ) → (at payments i .phase ≡ 2 → ⊥) → isFree payments own i ≡ false
   unfolding isFree
   free-other i n = and-stop _ (ne-eqb _ _ n)
+
+  -- what is free is not held back, and what is stamped and not free is
+  pub free-clear : (i : ℕ) → isFree payments own i ≡ true → heldBack payments own (stampOf (at payments i)) ≡ false
+  unfolding isFree
+  free-clear i e = not-true _ (and-right (isStamped (at payments i)) _ e)
+
+  pub not-free-held : (i : ℕ) → isFree payments own i ≡ false → at payments i .phase ≡ 2
+      → heldBack payments own (stampOf (at payments i)) ≡ true
+  unfolding isFree
+  not-free-held i e p = not-false _ (sym (and-go (not (heldBack payments own (stampOf (at payments i)))) (eq-eqb _ _ p)) ∙ e)
 
   pub free-held : (i j : ℕ) (s : Stamp) → s ≡ stampOf (at payments i) → j < limit → holdsBack own s (at payments j) ≡ true
       → isFree payments own i ≡ false

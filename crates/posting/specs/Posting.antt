@@ -4,19 +4,19 @@ use Prim.Native.Nat.{ℕ}
 use mathlib.Core.List.{List, map, _++_}
 use mathlib.Core.Bool.{Bool, cond, not, _&&_}
 use lib.ListN.{length, drop}
-use lib.Dec.{leb, ltb}
+use lib.Dec.{ltb}
 use Rattle.common.specs.Places.{any, listed}
 use Rattle.common.specs.Order.{sorted}
-use Rattle.payment.specs.Payments.{inPhase, isProposed, isStamped, posted, stampOf, timeFrom}
+use Rattle.payment.specs.Payments.{inPhase, isProposed, isStamped, posted, proposal, stampOf}
 use Rattle.payment.specs.Stamps.{below}
 use Rattle.payment.specs.declared.Payment.{Payment}
 use Rattle.payment.specs.declared.Stamp.{Stamp}
 use Rattle.held.specs.Held.{at, limit}
 use Rattle.posting.specs.declared.Posted.{Posted}
 
--- [R42] a payment holds a stamp back: it is in phase proposed, and its own time is not later than the time in the stamp
+-- [R42] a payment holds a stamp back: it is in phase proposed, and its own proposal is below the stamp
 unfoldable pub holdsBack : ℕ → Stamp → Payment → Bool
-holdsBack own stamp p = isProposed p && leb (timeFrom p own) (stamp .time .0)
+holdsBack own stamp p = isProposed p && below (proposal (p .times) own) stamp
 
 -- [R42] a stamp is held back while there is a payment that does it
 abbrev pub heldBack : List Payment → ℕ → Stamp → Bool

@@ -9,12 +9,12 @@ ghost use Rattle.common.specs.Order.{least};
 ghost use Rattle.held.specs.Held.{limit};
 ghost use Rattle.posting.specs.Posting.{before, holdsBack, isFree, left, noneFree, posting};
 
-// [R42] Whether a payment is still proposed with an own time that holds a stamp back.
+// [R42] Whether a payment is still proposed, with an own proposal below a stamp.
 fn holds_back(p: Payment, own: LedgerNo, stamp: Stamp) -> bool
     ensures { λ r. ⌜ r ≡ holdsBack (own .0) stamp p ⌝ }
 {
     let times = p.times;
-    (p.phase == payment::PROPOSED) & (payment::time_in(times, own).0 <= stamp.time.0)
+    (p.phase == payment::PROPOSED) & payment::proposal(times, own).is_below(stamp)
 }
 
 // [R43, X5] The place of the stamped payment of the least stamp that no proposed payment holds back; HELD where there is none.

@@ -1,8 +1,9 @@
--- Two runs [G1 to G6] written out call by call, the oldest first: case L's, and one of three ledgers with overlapping destinations,
--- retries, and a PROPOSE before its MULTICAST.
+-- Three runs [G1 to G6] written out call by call, the oldest first: case L's; one of three ledgers with overlapping destinations,
+-- retries, and a PROPOSE before its MULTICAST; and one of three ledgers and three payments whose stamps all have the
+-- same time.
 -- Assumes nothing.
 use Prim.Native.Nat.{ℕ}
-use mathlib.Core.List.{List, [], _∷_, reverse}
+use mathlib.Core.List.{List, [], _∷_, _++_, map, reverse}
 use lib.ListN.{replicate}
 use Rattle.held.specs.Held.{limit}
 use Rattle.agreement.specs.Run.{Call, Entry}
@@ -60,3 +61,36 @@ callsOfThree =
     ∷ to (PROPOSE 11 to 7 from 2 time 1) ledger 1
     ∷ to (PROPOSE 11 to 7 from 3 time 2) ledger 1
     ∷ [])
+
+-- payments 7, 9 and 11, each to all three ledgers
+abbrev pub tableOfTies : List Entry
+tableOfTies = goes 7 7 ∷ goes 9 7 ∷ goes 11 7 ∷ []
+
+infix 70 ledger_gets_
+-- one ledger's calls, one after the other
+abbrev ledger_gets_ : ℕ → List (List ℕ) → List Call
+ledger k gets frames = map (λ bytes. to bytes ledger k) frames
+
+-- 7 is proposed last at ledger 1, 9 at ledger 2 and 11 at ledger 3, so that their stamps are (3, 1), (3, 2) and (3, 3); then each ledger
+-- has stamped the other two, and the one that it proposed last is still proposed there
+unfoldable pub callsOfTies : List Call
+callsOfTies =
+    reverse
+    (ledger 1 gets (MULTICAST 9 to 7 ∷ MULTICAST 11 to 7 ∷ MULTICAST 7 to 7 ∷ [])
+    ++ ledger 2 gets (MULTICAST 7 to 7 ∷ MULTICAST 11 to 7 ∷ MULTICAST 9 to 7 ∷ [])
+    ++ ledger 3 gets (MULTICAST 7 to 7 ∷ MULTICAST 9 to 7 ∷ MULTICAST 11 to 7 ∷ [])
+    ++ ledger 1 gets (PROPOSE 9 to 7 from 2 time 3 ∷ PROPOSE 9 to 7 from 3 time 2 ∷ [])
+    ++ ledger 1 gets (PROPOSE 11 to 7 from 2 time 2 ∷ PROPOSE 11 to 7 from 3 time 3 ∷ [])
+    ++ ledger 2 gets (PROPOSE 7 to 7 from 1 time 3 ∷ PROPOSE 7 to 7 from 3 time 1 ∷ [])
+    ++ ledger 2 gets (PROPOSE 11 to 7 from 1 time 2 ∷ PROPOSE 11 to 7 from 3 time 3 ∷ [])
+    ++ ledger 3 gets (PROPOSE 7 to 7 from 1 time 3 ∷ PROPOSE 7 to 7 from 2 time 1 ∷ [])
+    ++ ledger 3 gets (PROPOSE 9 to 7 from 1 time 1 ∷ PROPOSE 9 to 7 from 2 time 3 ∷ []))
+
+-- the same calls, gone on with until every copy has been handed in
+unfoldable pub callsOfTiesToTheEnd : List Call
+callsOfTiesToTheEnd =
+    reverse
+    (ledger 1 gets (PROPOSE 7 to 7 from 2 time 1 ∷ PROPOSE 7 to 7 from 3 time 1 ∷ [])
+    ++ ledger 2 gets (PROPOSE 9 to 7 from 1 time 1 ∷ PROPOSE 9 to 7 from 3 time 2 ∷ [])
+    ++ ledger 3 gets (PROPOSE 11 to 7 from 1 time 2 ∷ PROPOSE 11 to 7 from 2 time 2 ∷ []))
+    ++ callsOfTies

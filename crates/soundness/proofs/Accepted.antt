@@ -14,8 +14,10 @@ use Rattle.common.specs.Places.{every}
 use Rattle.common.proofs.PlaceLaws.{first-holds, first-missing}
 use Rattle.common.proofs.TestLaws.{and-both, and-go, and-left, both, or-left, or-right, split}
 use Rattle.ledgers.specs.Ledgers.{has, unlawful}
-use Rattle.payment.specs.Payments.{hasProposal, hasStamp, heardFrom, isPosted, isProposed, isWaiting, newPayment, stampOf, timeFrom, timeIn}
+use Rattle.payment.specs.Payments.{hasProposal, hasStamp, heardFrom, isPosted, isProposed}
+use Rattle.payment.specs.Payments.{isWaiting, newPayment, proposal, stampOf, timeFrom, timeIn}
 use Rattle.right.specs.Right.{heardRight, notAboveClock, numbersDiffer, timesDiffer, phaseRight, unused}
+use Rattle.payment.specs.Stamps.{below}
 use Rattle.payment.specs.declared.Payment.{Payment}
 use Rattle.held.specs.Held.{at, holds, isNumber, limit, placeOf}
 use Rattle.refusals.specs.Refusals.{badSource, badTime, conflict, otherDestinations, firstGiven, noRoom}
@@ -82,7 +84,7 @@ pub record Base (l : Ledger) (f : Incoming) : Type 0 where
   pub other : (j : ℕ) → j < limit → j < l .count → (j ≡ placeFor l f → ⊥) → at (l .payments) j .number .0 ≡ f .payment .0 → ⊥
   pub apart : (j : ℕ) → j < limit → j < l .count → (j ≡ placeFor l f → ⊥) → Apart (paymentFor l f) (at (l .payments) j)
   pub posted : (j : ℕ) → j < limit → isPosted (at (l .payments) j) ≡ true → paymentFor l f .phase ≡ 1
-      → stampOf (at (l .payments) j) .time .0 < timeFrom (paymentFor l f) (l .own .0)
+      → below (stampOf (at (l .payments) j)) (proposal (paymentFor l f .times) (l .own .0)) ≡ true
 
 -- a payment that is taken in
 module _ (l : Ledger) (f : Incoming) (n : isHeld (l .payments) f ≡ false) where
@@ -242,11 +244,10 @@ module _ (l : Ledger) (s : Almost l) (shape : Shaped l) (f : Incoming) (a : Acce
         other = λ j h u o. held-other j h u (λ e. o (e ∙ sym is-place));
         apart = λ j h u o. subst (λ p. Apart p (at (l .payments) j)) (sym is-held)
             (apart-pairs l s (placeOf (l .payments) (f .payment .0)) j place-range h place-used u (λ e. o (sym e ∙ sym is-place)));
-        posted = λ j h p e. subst (λ q. stampOf (at (l .payments) j) .time .0 < timeFrom q (l .own .0)) (sym is-held)
-            (ltb-true _ _
-            (sym (after-proposed (l .own .0) (stampOf (at (l .payments) j)) (heldOne (l .payments) f)
+        posted = λ j h p e. ap (λ q. below (stampOf (at (l .payments) j)) (proposal (q .times) (l .own .0))) is-held
+            ∙ sym (after-proposed (l .own .0) (stampOf (at (l .payments) j)) (heldOne (l .payments) f)
             (sym (ap (λ q. q .phase) is-held) ∙ e))
-            ∙ posted-at (l .payments) (l .own .0) (s .posted) j _ h place-range p));
+            ∙ posted-at (l .payments) (l .own .0) (s .posted) j _ h place-range p;
       }
 
 -- the frame's payment, held or new

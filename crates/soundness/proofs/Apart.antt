@@ -6,9 +6,10 @@ use mathlib.Core.Bool.{true, not, _&&_}
 use borrow.Author.Tests.{eq-eqb, eqb-true}
 use Rattle.common.proofs.PlaceLaws.{every-all, every-at}
 use Rattle.common.proofs.TestLaws.{and-both, and-left, and-right, both, split}
-use Rattle.payment.specs.Payments.{heardFrom, hasProposal, timeFrom}
+use Rattle.payment.specs.Payments.{heardFrom, hasProposal, proposal, stampOf, timeFrom}
 use Rattle.right.specs.Right.{timesDiffer}
 use Rattle.payment.specs.declared.Payment.{Payment}
+use Rattle.payment.proofs.KeptLaws.{greatest-proposed}
 use Rattle.right.proofs.RightLaws.{differ-shared}
 
 -- no ledger was heard for both with the same time
@@ -33,3 +34,9 @@ apart-so p q f =
 
 pub apart-sym : (p q : Payment) → Apart p q → Apart q p
 apart-sym p q f k h a b t = f k h b a (sym t)
+
+-- so the stamp of one is no proposal of the other
+pub apart-stamp : (p q : Payment) → Apart p q → (k : ℕ) → k < 8 → heardFrom q (suc k) ≡ true → stampOf p ≡ proposal (q .times) (suc k) → ⊥
+apart-stamp p q f k h a e =
+    let mine = greatest-proposed (p .times) (p .heard) 8 k (ap (λ s. s .ledger .0) e) in
+    f k h (mine .0) a (ap (λ t. t .0) (mine .1) ∙ ap (λ s. s .time .0) e)

@@ -11,11 +11,14 @@ use borrow.Author.Tests.{eq-eqb, eqb-false, le-leb, leb-true, ltb-false, ne-eqb,
 use Rattle.common.proofs.PlaceLaws.{any-none}
 use Rattle.common.proofs.TestLaws.{and-both, and-go, and-left, and-right, both, or-go, or-left, or-right, split}
 use Rattle.ledgers.specs.Ledgers.{has, isGroup, isLedgerOf}
-use Rattle.payment.specs.Payments.{hasStamp, hear, heardFrom, inPhase, isPosted, isStamped, keeps, lastTime, proposed, stampOf, timeFrom}
+use Rattle.payment.specs.Payments.{hasStamp, hear, heardFrom, inPhase, isPosted, isStamped}
+use Rattle.payment.specs.Payments.{keeps, lastTime, proposal, proposed, stampOf, timeFrom}
 use Rattle.right.specs.Right.{notAboveClock}
+use Rattle.payment.specs.Stamps.{below}
 use Rattle.payment.specs.declared.Payment.{Payment}
 use Rattle.payment.proofs.HearLaws.{Hears, hear-phase, hears}
 use Rattle.payment.proofs.KeptLaws.{keeps-proposes}
+use Rattle.payment.proofs.StampLaws.{below-time}
 use Rattle.ledgers.proofs.LedgerLaws.{place}
 use Rattle.held.specs.Held.{at, isNumber, limit}
 use Rattle.checked.proofs.ReflectLaws.{each-at}
@@ -100,7 +103,8 @@ module _ (l : Ledger) (f : Incoming) (s : Almost l) (a : Accepted l f) (b : Base
         own-time = λ e. subst (λ n. n ≤ l .clock .0 + 1) (sym (multicast-heard .time)) (le-refl _);
         own-late = λ e j h p.
             let early = posted-time l s j h p in
-            subst (λ n. stampOf (at (l .payments) j) .time .0 < n) (sym (multicast-heard .time)) (omega arith);
+            below-time (stampOf (at (l .payments) j)) (proposal (multicasted .times) (l .own .0))
+            (subst (λ n. stampOf (at (l .payments) j) .time .0 < n) (sym (multicast-heard .time)) (omega arith));
         later = omega arith;
         in-time = omega arith;
       }
@@ -161,7 +165,8 @@ module _ (l : Ledger) (f : Incoming) (s : Almost l) (a : Accepted l f) (b : Base
         fresh = fresh-propose k;
         so-far = ⊎-elim (λ x. inl (x .0, own .0 ∙ x .1)) (λ x. inr (x .0, own .0 ∙ x .1)) (b .phase);
         own-time = λ e. subst (λ n. n ≤ l .clock .0) (sym (own .1)) (b .own-time (sym (own .0) ∙ e));
-        own-late = λ e j h p. subst (λ n. stampOf (at (l .payments) j) .time .0 < n) (sym (own .1))
+        own-late = λ e j h p.
+            subst (λ n. below (stampOf (at (l .payments) j)) (record { time = record { 0 = n }; ledger = l .own }) ≡ true) (sym (own .1))
             (b .posted j h p (phase-own (sym (own .0) ∙ e)));
         later = le-refl _;
         in-time = clock-range l (s .range);

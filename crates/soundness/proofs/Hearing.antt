@@ -1,24 +1,23 @@
 -- The payment after rules 1 to 3: what its record says, and that it fits into the ledger.
 -- Assumes nothing.
-use Prim.Native.Nat.{ℕ, suc, _+_, _-_, _*_, _<_, _≤_}
+use Prim.Native.Nat.{ℕ, suc, _≤_}
 use mathlib.Core.Path.{_≡_, ap, ap₂, sym, _∙_, subst}
 use mathlib.Core.Bool.{true, cond, _&&_}
-use native.Mathlib.Nat.{le-trans}
+use mathlib.Core.Logic.{⊎-elim}
 use native.Mathlib.Omega.{arith}
 use lib.Dec.{eqb, leb}
-use borrow.Author.Tests.{eqb-false, eqb-true, leb-true, lt-ltb}
+use borrow.Author.Tests.{eqb-false, eqb-true, leb-true}
 use Rattle.common.proofs.PlaceLaws.{every-all, every-at}
-use Rattle.common.proofs.TestLaws.{and-both, and-right, split}
+use Rattle.common.proofs.TestLaws.{and-both, and-right, both, split}
 use Rattle.ledgers.specs.Ledgers.{has}
 use Rattle.payment.specs.Payments.{heardFrom, isTime, lastTime, proposal, stampOf, timeFrom}
 use Rattle.right.specs.Right.{heardRight, timeRight}
 use Rattle.payment.specs.Stamps.{below}
 use Rattle.payment.specs.declared.Payment.{Payment}
 use Rattle.payment.specs.declared.Stamp.{Stamp}
-use Rattle.payment.proofs.GreatestLaws.{greatest-above, greatest-ledger, greatest-time}
+use Rattle.payment.proofs.GreatestLaws.{greatest-time, stamp-highest}
 use Rattle.payment.proofs.HearLaws.{Hears}
-use Rattle.ledgers.proofs.LedgerLaws.{place}
-use Rattle.payment.proofs.StampLaws.{below-rank, rank}
+use Rattle.payment.proofs.StampLaws.{below-between}
 use Rattle.soundness.proofs.Apart.{Apart}
 
 -- hearing keeps what is right about the times
@@ -58,18 +57,8 @@ stamp-time p e =
     ∙ right in
     leb-true _ _ (and-right (leb 1 (timeFrom p (suc k))) _ (and-right (has (p .destinations) (suc k)) _ held)))
 
--- a stamp whose time is below an own time that was heard is below the payment's stamp
-pub below-stamp : (s : Stamp) (p : Payment) (own : ℕ) → s .ledger .0 ≤ 8 → 1 ≤ own → own ≤ 8 → heardFrom p own ≡ true
-    → s .time .0 < timeFrom p own
+-- a stamp below a proposal that was heard is below the payment's stamp
+pub below-stamp : (s : Stamp) (p : Payment) (k : ℕ) → 1 ≤ k → k ≤ 8 → heardFrom p k ≡ true → below s (proposal (p .times) k) ≡ true
     → below s (stampOf p) ≡ true
-below-stamp s p own hs h g a l =
-    let is : own ≡ suc (own - 1) = place own (λ e. omega arith) in
-    let top = greatest-above (p .times) (p .heard) 8 (omega arith) (own - 1) (omega arith) (subst (λ n. heardFrom p n ≡ true) is a) in
-    let mine : rank (proposal (p .times) own) ≤ rank (stampOf p) = subst (λ n. rank (proposal (p .times) n) ≤ rank (stampOf p))
-    (sym is) top in
-    let few = greatest-ledger (p .times) (p .heard) 8 in
-    below-rank s (stampOf p) (omega arith) (omega arith) ∙ lt-ltb _ _
-    (le-trans (before (s .time .0) (s .ledger .0) (timeFrom p own) own hs l) mine)
-  where
-    before : (a b c d : ℕ) → b ≤ 8 → a < c → a * 256 + b < c * 256 + d
-    before a b c d hb hl = omega arith
+below-stamp s p k h g a b =
+    ⊎-elim (λ x. x) (λ x. both x (stamp-highest p k h g a)) (below-between s (stampOf p) (proposal (p .times) k) b)

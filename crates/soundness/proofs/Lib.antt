@@ -11,5 +11,5 @@ pub mod Kept
 pub mod Steps
 pub mod Fresh
 pub mod Postings
-pub mod Taken
 pub mod Named
+pub mod Taken

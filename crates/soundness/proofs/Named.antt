@@ -3,21 +3,23 @@
 use Prim.Native.Nat.{ℕ, suc, _-_, _≤_}
 use mathlib.Core.Path.{_≡_, ap, sym, _∙_}
 use mathlib.Core.Bool.{true, false, cond}
+use mathlib.Core.Logic.{⊎-elim}
 use native.Mathlib.Omega.{arith}
 use lib.Dec.{eqb}
-use borrow.Author.Tests.{le-ltb, not-true}
+use borrow.Author.Tests.{eq-eqb, eqb-true, not-true}
 use Rattle.common.specs.Places.{first}
-use Rattle.common.proofs.PlaceLaws.{any-not, first-found}
-use Rattle.ledgers.proofs.LedgerLaws.{place}
-use Rattle.payment.specs.Payments.{heardFrom, proposal, stampOf}
-use Rattle.payment.specs.Stamps.{below}
+use Rattle.common.proofs.PlaceLaws.{any-not, any-place, first-found}
+use Rattle.common.proofs.TestLaws.{both, or-cases, split}
+use Rattle.payment.specs.Payments.{heardFrom, isPosted, isStamped, proposal, stampOf}
 use Rattle.payment.specs.declared.Payment.{Payment}
-use Rattle.payment.proofs.GreatestLaws.{greatest-above, greatest-ledger}
+use Rattle.payment.proofs.GreatestLaws.{stamp-highest}
 use Rattle.payment.proofs.KeptLaws.{greatest-proposed}
-use Rattle.payment.proofs.StampLaws.{below-rank, rank}
+use Rattle.payment.proofs.StampLaws.{below-once}
 use Rattle.right.specs.Right.{numberNotZero, unused}
 use Rattle.held.specs.Held.{at, limit}
-use Rattle.checked.proofs.ReflectLaws.{each-at, unused-at}
+use Rattle.checked.proofs.AfterLaws.{after-proposed}
+use Rattle.checked.proofs.ReflectLaws.{each-at, posted-at, unused-at}
+use Rattle.posting.proofs.FreeLaws.{back-says, free-none, not-free-held}
 use Rattle.refusals.specs.Refusals.{firstGiven, found, isHeld}
 use Rattle.refusals.specs.declared.Incoming.{Incoming}
 use Rattle.ledger.specs.Sound.{sound}
@@ -26,7 +28,7 @@ use Rattle.ledger.specs.Table.{valueRows}
 use Rattle.ledger.specs.declared.Ledger.{Ledger}
 use Rattle.ledger.proofs.JudgeLaws.{place-range}
 use Rattle.ledger.proofs.SoundLaws.{clauses}
-use Rattle.soundness.specs.Taken.{IsGreatest, KeepsSound}
+use Rattle.soundness.specs.Taken.{IsGreatest, KeepsSound, UnpostedExactlyIfHeldBack}
 use Rattle.soundness.proofs.Postings.{stamp-some}
 use Rattle.soundness.proofs.Steps.{step-sound}
 
@@ -45,15 +47,26 @@ stamp-greatest p k h₁ h₈ e =
       ledger = l;
       heard = ap (heardFrom p) is-suc ∙ given .0;
       is = λ i. record { time = (sym (given .1) ∙ ap (λ n. proposal (p .times) n .time) (sym is-suc)) i; ledger = record { 0 = l } };
-      none-above = λ j j₁ j₈ heard.
-          let place-j : j ≡ suc (j - 1) = place j (λ z. omega arith) in
-          let few : l ≤ 8 = greatest-ledger (p .times) (p .heard) 8 in
-          let top : rank (proposal (p .times) (suc (j - 1))) ≤ rank (stampOf p) =
-          greatest-above (p .times) (p .heard) 8 (omega arith) (j - 1) (omega arith) (ap (heardFrom p) (sym place-j) ∙ heard) in
-          ap (λ n. below (stampOf p) (proposal (p .times) n)) place-j
-          ∙ below-rank (stampOf p) (proposal (p .times) (suc (j - 1))) (omega arith) (omega arith)
-          ∙ le-ltb (rank (stampOf p)) (rank (proposal (p .times) (suc (j - 1)))) top;
+      none-above = stamp-highest p;
     }
+
+-- in a sound state a payment that has its stamp is unposted exactly if another holds it back
+pub unposted-exactly : (l : Ledger) → sound l ≡ true → UnpostedExactlyIfHeldBack l
+unposted-exactly l e i h stamp =
+    let s = clauses l e in (
+      λ n. ⊎-elim
+          (λ two. let (k, g, b) = any-place limit _
+          (not-free-held (l .payments) (l .own .0) i (free-none (l .payments) (l .own .0) (s .free) i h) (eqb-true _ _ two)) in
+          let q = back-says (l .own .0) (stampOf (at (l .payments) i)) (at (l .payments) k) b in
+          record { holder = k; within = g; is-proposed = eq-eqb _ _ (q .0); is-below = q .1 })
+          (λ three. both three n)
+          (or-cases (isStamped (at (l .payments) i)) (isPosted (at (l .payments) i)) stamp),
+      λ x. split (isPosted (at (l .payments) i))
+          (λ p. absurd (below-once _ _ (x .is-below)
+          (sym (after-proposed (l .own .0) (stampOf (at (l .payments) i)) (at (l .payments) (x .holder)) (eqb-true _ _ (x .is-proposed)))
+          ∙ posted-at (l .payments) (l .own .0) (s .kept .posted) i (x .holder) h (x .within) p)))
+          (λ p. p),
+    )
 
 used : (p : Payment) → numberNotZero p ≡ true → unused p ≡ false
 unfolding unused

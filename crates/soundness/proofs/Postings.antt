@@ -23,12 +23,12 @@ use Rattle.payment.proofs.StampLaws.{below-rank, rank}
 use Rattle.held.specs.Held.{at, limit}
 use Rattle.posting.specs.Posting.{before, isFree, toPost}
 use Rattle.posting.proofs.PostLaws.{free-stamped}
-use Rattle.checked.proofs.ReflectLaws.{each-at, unused-at}
+use Rattle.checked.proofs.ReflectLaws.{each-at}
 use Rattle.ledger.specs.declared.Ledger.{Ledger}
 use Rattle.soundness.proofs.Apart.{Apart}
 use Rattle.ledger.proofs.SoundLaws.{Almost}
 use Rattle.soundness.proofs.Accepted.{apart-pairs}
-use Rattle.soundness.proofs.Replacing.{unused-phase}
+use Rattle.soundness.proofs.Replacing.{past-held}
 use Rattle.common.specs.Order.{Rising}
 use Rattle.common.proofs.RisingLaws.{sorted-all, sorted-has, sorted-rising}
 use Rattle.soundness.proofs.Taking.{own-among}
@@ -80,11 +80,7 @@ stamps-differ p q own h g a b apart e =
 module _ (l : Ledger) (s : Almost l) (range : (1 ≤ l .own .0) × (l .own .0 ≤ 8)) where
   -- a stamped payment is held, and this ledger was heard for it
   pub stamped-held : (i : ℕ) → i < limit → at (l .payments) i .phase ≡ 2 → i < l .count
-  stamped-held i h p =
-      split (ltb i (l .count)) (λ t. ltb-true _ _ t)
-      (λ t. let none : at (l .payments) i .phase ≡ 0 = unused-phase (at (l .payments) i)
-      (unused-at (l .payments) (l .count) (s .unused) i h (ltb-false _ _ t)) in
-      absurd (omega (arith, none, p)))
+  stamped-held i h p = past-held l s i h (λ z. omega (arith, z, p))
 
   stamped-own : (i : ℕ) → i < limit → at (l .payments) i .phase ≡ 2 → heardFrom (at (l .payments) i) (l .own .0) ≡ true
   stamped-own i h p =

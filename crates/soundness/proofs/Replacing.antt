@@ -8,7 +8,7 @@ use native.Mathlib.Omega.{arith}
 use lib.Dec.{eqb, ltb}
 use lib.ListN.{length, set}
 use lib.Seq.{getD-set-other, getD-set-same}
-use borrow.Author.Tests.{eqb-true, le-leb, le-ltb, ltb-false, ltb-true, ne-eqb, not-true}
+use borrow.Author.Tests.{eqb-true, le-leb, le-ltb, ltb-false, ltb-true, not-true}
 use Rattle.common.proofs.TestLaws.{and-both, and-left, and-right, both, split}
 use Rattle.frame.specs.declared.Time.{Time}
 use Rattle.payment.specs.Payments.{hasStamp, heardFrom, isPosted, lastTime, stampOf, timeFrom}
@@ -22,16 +22,12 @@ use Rattle.ledger.specs.Sound.{each, inRange, pairs}
 use Rattle.ledger.specs.declared.Ledger.{Ledger}
 use Rattle.ledger.proofs.SoundLaws.{Almost}
 
--- by whether two places are the same
--- an unused place is waiting, and so is not posted
+-- an unused place is waiting
 pub unused-phase : (p : Payment) → unused p ≡ true → p .phase ≡ 0
 unfolding unused
 unused-phase p e =
     eqb-true _ _ (and-left (eqb (p .phase) 0) _ (and-right (eqb (p .heard) 0) _
     (and-right (eqb (p .destinations) 0) _ (and-right (eqb (p .number .0) 0) _ e))))
-
-unused-unposted : (p : Payment) → unused p ≡ true → isPosted p ≡ false
-unused-unposted p e = let phase = unused-phase p e in ne-eqb (p .phase) 3 (λ q. omega (arith, phase, q))
 
 -- what is not above a clock is not above a later one
 not-less : (a b c : ℕ) → b ≤ c → ltb b a ≡ false → ltb c a ≡ false
@@ -76,11 +72,14 @@ pub record Fits (l : Ledger) (count : ℕ) (clock : Time) (i : ℕ) (q : Payment
   pub behind-posted : (j : ℕ) → j < limit → j < l .count → (j ≡ i → ⊥) → isPosted (at (l .payments) j) ≡ true
       → comesAfter (l .own .0) (stampOf (at (l .payments) j)) q ≡ true
 
--- a posted payment is a held one
-pub posted-held : (l : Ledger) → Almost l → (j : ℕ) → j < limit → isPosted (at (l .payments) j) ≡ true → j < l .count
-posted-held l s j h p =
+-- a payment past waiting is a held one
+pub past-held : (l : Ledger) → Almost l → (j : ℕ) → j < limit → (at (l .payments) j .phase ≡ 0 → ⊥) → j < l .count
+past-held l s j h n =
     split (ltb j (l .count)) (λ t. ltb-true _ _ t)
-    (λ t. both p (unused-unposted (at (l .payments) j) (unused-at (l .payments) (l .count) (s .unused) j h (ltb-false _ _ t))))
+    (λ t. absurd (n (unused-phase (at (l .payments) j) (unused-at (l .payments) (l .count) (s .unused) j h (ltb-false _ _ t)))))
+
+pub posted-held : (l : Ledger) → Almost l → (j : ℕ) → j < limit → isPosted (at (l .payments) j) ≡ true → j < l .count
+posted-held l s j h p = past-held l s j h (λ z. let three = eqb-true (at (l .payments) j .phase) 3 p in omega (arith, z, three))
 
 module _ (l : Ledger) (count : ℕ) (clock : Time) (i : ℕ) (q : Payment) (s : Almost l) (w : Fits l count clock i q) where
   at-new : at (set (l .payments) i q) i ≡ q

@@ -1,48 +1,35 @@
 -- Posting: from every clause but "no stamped payment is free to post" to a sound ledger.
 -- Assumes nothing.
-use Prim.Native.Nat.{ℕ, _<_, _≤_}
+use Prim.Native.Nat.{ℕ, suc, _-_, _<_}
 use mathlib.Core.Path.{_≡_, refl, ap, sym, _∙_, subst}
-use mathlib.Core.List.{List}
 use mathlib.Core.Bool.{Bool, true, false, not, cond, _&&_, _||_}
-use native.Mathlib.Nat.{le-trans}
+use mathlib.Core.Logic.{⊎-elim}
 use native.Mathlib.Omega.{arith}
 use lib.Dec.{eqb, ltb}
-use borrow.Author.Tests.{eq-eqb, eqb-false, eqb-true, leb-false, leb-true, lt-ltb, not-false, not-true}
+use borrow.Author.Tests.{eq-eqb, eqb-false, eqb-true}
 use Rattle.common.proofs.PlaceLaws.{any-none, any-place, getD-listed}
-use Rattle.common.proofs.TestLaws.{and-go, and-left, and-right, split}
-use Rattle.payment.specs.Payments.{heardFrom, inPhase, isPosted, isProposed, isStamped, posted, stampOf, timeFrom}
+use Rattle.common.proofs.TestLaws.{both, split}
+use Rattle.payment.specs.Payments.{heardFrom, inPhase, isPosted, isProposed, isStamped, posted, proposal, stampOf, timeFrom}
 use Rattle.right.specs.Right.{heardRight, lawful, notAboveClock, numberNotZero, numbersDiffer, timesDiffer, phaseRight, unused}
+use Rattle.ledgers.proofs.LedgerLaws.{place}
+use Rattle.payment.specs.Stamps.{below}
 use Rattle.payment.specs.declared.Payment.{Payment}
-use Rattle.payment.specs.declared.Stamp.{Stamp}
-use Rattle.right.proofs.RightLaws.{differ-shared, later-stamp}
-use Rattle.payment.proofs.StampLaws.{below-time}
+use Rattle.right.proofs.RightLaws.{differ-shared, later-stamp, proposed-others}
+use Rattle.payment.proofs.StampLaws.{below-between, below-or}
 use Rattle.held.specs.Held.{at, limit, noPayment}
-use Rattle.posting.specs.Posting.{afterPosting, heldBack, holdsBack, isFree, noneFree}
+use Rattle.posting.specs.Posting.{afterPosting, holdsBack, isFree, noneFree}
 use Rattle.checked.specs.Checked.{comesAfter, postedBelow, unusedAll}
-use Rattle.posting.proofs.FreeLaws.{back-proposed, free-held, free-other, none-so}
+use Rattle.posting.proofs.FreeLaws.{back-proposed, back-says, free-clear, free-held, free-other, none-so, not-free-held}
 use Rattle.checked.proofs.AfterLaws.{after-other, after-proposed, after-stamped}
 use Rattle.posting.proofs.PostLaws.{free-stamped}
 use Rattle.checked.proofs.ReflectLaws.{each-at, each-so, pairs-at, pairs-so, posted-at, posted-so, unused-at, unused-so}
 use Rattle.ledger.specs.Sound.{each, pairs}
 use Rattle.ledger.specs.declared.Ledger.{Ledger}
 use Rattle.ledger.proofs.SoundLaws.{Almost, Sound}
-use Rattle.soundness.proofs.Replacing.{unused-phase}
-
--- what a free payment is, and what one that is not free is
-module _ (payments : List Payment) (own : ℕ) where
-  pub free-clear : (i : ℕ) → isFree payments own i ≡ true → heldBack payments own (stampOf (at payments i)) ≡ false
-  unfolding isFree
-  free-clear i e = not-true _ (and-right (isStamped (at payments i)) _ e)
-
-  pub not-free-held : (i : ℕ) → isFree payments own i ≡ false → at payments i .phase ≡ 2
-      → heldBack payments own (stampOf (at payments i)) ≡ true
-  unfolding isFree
-  not-free-held i e p = not-false _ (sym (and-go (not (heldBack payments own (stampOf (at payments i)))) (eq-eqb _ _ p)) ∙ e)
-
--- a payment that holds a stamp back is proposed, with an own time not above the stamp's
-pub holder : (own : ℕ) (s : Stamp) (p : Payment) → holdsBack own s p ≡ true → (p .phase ≡ 1) × (timeFrom p own ≤ s .time .0)
-unfolding holdsBack
-holder own s p e = (eqb-true _ _ (and-left (isProposed p) _ e), leb-true _ _ (and-right (isProposed p) _ e))
+use Rattle.soundness.proofs.Accepted.{apart-pairs}
+use Rattle.soundness.proofs.Apart.{apart-stamp}
+use Rattle.soundness.proofs.Bringing.{own-range}
+use Rattle.soundness.proofs.Replacing.{past-held, unused-phase}
 
 -- posted in place of stamped changes neither numbers, nor destinations, nor times
 otherTimes-posted : (p q : Payment) → timesDiffer p q ≡ true
@@ -159,42 +146,66 @@ module _ (l : Ledger) (s : Almost l) where
       still j h t =
           split (isStamped (at (l .payments) j))
           (λ p. let (k, g, b) = any-place limit _ (not-free-held (l .payments) (l .own .0) j t (eqb-true _ _ p)) in
-          let kept = proposed-after k g (holder (l .own .0) _ (at (l .payments) k) b .0) in
+          let kept = proposed-after k g (back-says (l .own .0) _ (at (l .payments) k) b .0) in
           free-held (afterPosting (l .payments) (l .own .0)) (l .own .0) j k (stampOf (at (l .payments) j))
           (ap stampOf (sym (same j h t))) g
           (ap (holdsBack (l .own .0) (stampOf (at (l .payments) j))) kept ∙ b))
           (λ p. free-other (afterPosting (l .payments) (l .own .0)) (l .own .0) j
           (λ e. eqb-false _ _ p (sym (ap (λ x. x .phase) (same j h t)) ∙ e)))
 
-  -- what was free comes before what is held back, and before every proposed payment's own time
-  free-behind : (j k : ℕ) → k < limit → isFree (l .payments) (l .own .0) j ≡ true → isFree (l .payments) (l .own .0) k ≡ false
+  -- no own proposal of a proposed payment is below a stamp that is free
+  clear : (j m : ℕ) → isFree (l .payments) (l .own .0) j ≡ true → m < limit → at (l .payments) m .phase ≡ 1
+      → below (proposal (at (l .payments) m .times) (l .own .0)) (stampOf (at (l .payments) j)) ≡ false
+  clear j m t h e =
+      sym (back-proposed (l .own .0) (stampOf (at (l .payments) j)) (at (l .payments) m) e)
+      ∙ any-none limit (λ k. holdsBack (l .own .0) (stampOf (at (l .payments) j)) (at (l .payments) k))
+      (free-clear (l .payments) (l .own .0) j t) m h
+
+  proposed-heard : (k : ℕ) → k < limit → at (l .payments) k .phase ≡ 1 → heardFrom (at (l .payments) k) (l .own .0) ≡ true
+  proposed-heard k h e =
+      split (heardFrom (at (l .payments) k) (l .own .0)) (λ t. t)
+      (λ t. both (each-at (l .payments) (l .count) (phaseRight (l .own .0)) (s .phase) k h (past-held l s k h (λ z. omega (arith, z, e))))
+      (proposed-others (l .own .0) (at (l .payments) k) e t))
+
+  -- nor is one the same as such a stamp, since no time is kept for two payments: every one is above it
+  pub free-below : (j k : ℕ) → j < limit → k < limit → isFree (l .payments) (l .own .0) j ≡ true → at (l .payments) k .phase ≡ 1
+      → below (stampOf (at (l .payments) j)) (proposal (at (l .payments) k .times) (l .own .0)) ≡ true
+  free-below j k h g t e =
+      let range = own-range l (s .range) in
+      let two = free-stamped (l .payments) (l .own .0) j t in
+      let is : l .own .0 ≡ suc (l .own .0 - 1) = place (l .own .0) (λ z. omega arith) in
+      let apart = apart-pairs l s j k h g (past-held l s j h (λ z. omega (arith, z, two))) (past-held l s k g (λ z. omega (arith, z, e)))
+      (λ z. omega (arith, two, e, ap (λ i. at (l .payments) i .phase) z)) in
+      ⊎-elim (λ x. x) (λ x. both x (clear j k t g e))
+      (below-or (stampOf (at (l .payments) j)) (proposal (at (l .payments) k .times) (l .own .0))
+      (λ z. apart-stamp (at (l .payments) j) (at (l .payments) k) apart (l .own .0 - 1) (omega arith)
+      (subst (λ n. heardFrom (at (l .payments) k) n ≡ true) is (proposed-heard k g e))
+      (z ∙ ap (proposal (at (l .payments) k .times)) is)))
+
+  -- what was free comes before what is held back, and before every proposed payment's own proposal
+  free-behind : (j k : ℕ) → j < limit → k < limit → isFree (l .payments) (l .own .0) j ≡ true → isFree (l .payments) (l .own .0) k ≡ false
       → comesAfter (l .own .0) (stampOf (at (l .payments) j)) (at (l .payments) k) ≡ true
-  free-behind j k g t u =
+  free-behind j k h g t u =
       split (isStamped (at (l .payments) k))
       (λ p. let stamp = eqb-true _ _ p in
-      let (m, h, b) = any-place limit _ (not-free-held (l .payments) (l .own .0) k u stamp) in
-      let q = holder (l .own .0) (stampOf (at (l .payments) k)) (at (l .payments) m) b in
+      let (m, i, b) = any-place limit _ (not-free-held (l .payments) (l .own .0) k u stamp) in
+      let q = back-says (l .own .0) (stampOf (at (l .payments) k)) (at (l .payments) m) b in
       after-stamped (l .own .0) (stampOf (at (l .payments) j)) (at (l .payments) k) stamp
-      ∙ below-time (stampOf (at (l .payments) j)) (stampOf (at (l .payments) k)) (le-trans (clear m h (q .0)) (q .1)))
+      ∙ ⊎-elim (λ x. both x (clear j m t i (q .0))) (λ x. x)
+      (below-between (proposal (at (l .payments) m .times) (l .own .0)) (stampOf (at (l .payments) j)) (stampOf (at (l .payments) k))
+      (q .1)))
       (λ p. split (isProposed (at (l .payments) k))
       (λ r. let prop = eqb-true _ _ r in
-      after-proposed (l .own .0) (stampOf (at (l .payments) j)) (at (l .payments) k) prop ∙ lt-ltb _ _ (clear k g prop))
+      after-proposed (l .own .0) (stampOf (at (l .payments) j)) (at (l .payments) k) prop ∙ free-below j k h g t prop)
       (λ r. after-other (l .own .0) (stampOf (at (l .payments) j)) (at (l .payments) k) (eqb-false _ _ p) (eqb-false _ _ r)))
-    where
-      clear : (m : ℕ) → m < limit → at (l .payments) m .phase ≡ 1
-          → stampOf (at (l .payments) j) .time .0 < timeFrom (at (l .payments) m) (l .own .0)
-      clear m h e =
-          leb-false _ _
-          (sym (back-proposed (l .own .0) (stampOf (at (l .payments) j)) (at (l .payments) m) e)
-          ∙ any-none limit (λ k. holdsBack (l .own .0) (stampOf (at (l .payments) j)) (at (l .payments) k))
-          (free-clear (l .payments) (l .own .0) j t) m h)
 
   posted-after : postedBelow (afterPosting (l .payments) (l .own .0)) (l .own .0) ≡ true
   posted-after =
       posted-so (afterPosting (l .payments) (l .own .0)) (l .own .0)
       (λ j k h g. after (λ p. isPosted p ≡ true → comesAfter (l .own .0) (stampOf p)
       (at (afterPosting (l .payments) (l .own .0)) k) ≡ true) j h
-      (λ t e. after (λ q. comesAfter (l .own .0) (stampOf (at (l .payments) j)) q ≡ true) k g (λ u. past j k) (λ u. free-behind j k g t u))
+      (λ t e. after (λ q. comesAfter (l .own .0) (stampOf (at (l .payments) j)) q ≡ true) k g (λ u. past j k)
+      (λ u. free-behind j k h g t u))
       (λ t e. after (λ q. comesAfter (l .own .0) (stampOf (at (l .payments) j)) q ≡ true) k g (λ u. past j k)
       (λ u. posted-at (l .payments) (l .own .0) (s .posted) j k h g e)))
     where

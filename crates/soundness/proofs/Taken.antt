@@ -14,11 +14,12 @@ use Rattle.ledger.specs.Step.{afterStamping, postRule, step}
 use Rattle.ledger.specs.declared.Ledger.{Ledger}
 use Rattle.ledger.proofs.SoundLaws.{clauses}
 use Rattle.soundness.specs.Shaped.{Shaped}
-use Rattle.soundness.specs.Taken.{Posts}
+use Rattle.soundness.specs.Taken.{Posts, UnpostedExactlyIfHeldBack}
 use Rattle.soundness.proofs.Bringing.{own-range}
 use Rattle.soundness.proofs.Kept.{heard-almost, taken-sound}
 use Rattle.soundness.proofs.Postings.{posting-all, posting-free, posting-rising}
-use Rattle.soundness.proofs.Steps.{is-taken}
+use Rattle.soundness.proofs.Named.{unposted-exactly}
+use Rattle.soundness.proofs.Steps.{is-taken, step-sound}
 
 module _ (l : Ledger) (frame outgoing list : List ℕ) (shape : Shaped l) (e : answerTo l frame outgoing list ≡ 0) where
   pub step-posts : Posts (afterStamping l (incoming (frameValues frame))) list (step l frame outgoing list)
@@ -37,6 +38,10 @@ module _ (l : Ledger) (frame outgoing list : List ℕ) (shape : Shaped l) (e : a
         payments-are = refl;
         none-left = clauses _ (taken-sound l (incoming (frameValues frame)) (k .is-sound) shape (k .unrefused) outgoing list) .free;
       }
+
+  -- what has its stamp afterwards is unposted exactly if a payment still proposed here has an own proposal below that stamp
+  pub step-holds-back : UnpostedExactlyIfHeldBack (step l frame outgoing list .state)
+  step-holds-back = unposted-exactly _ (step-sound l frame outgoing list shape (is-taken l frame outgoing list e .is-sound))
 
   -- copies are as many as there are recipients
   pub step-copies : step l frame outgoing list .copies ≡ howMany (step l frame outgoing list .recipients)

@@ -7,14 +7,14 @@ use mathlib.Core.Logic.{_⊎_, ⊎-elim}
 use native.Mathlib.Nat.{le-max-left, le-max-right, le-trans}
 use native.Mathlib.Omega.{arith}
 use lib.Dec.{eqb, leb, ltb}
-use borrow.Author.Tests.{eqb-true, le-ltb, lt-ltb, ne-eqb, not-false}
+use borrow.Author.Tests.{eqb-true, le-ltb, ne-eqb, not-false}
 use Rattle.ledgers.proofs.LedgerLaws.{has-empty}
 use Rattle.common.proofs.TestLaws.{and-both, both, or-right, split}
 use Rattle.ledgers.specs.Ledgers.{has, unlawful}
-use Rattle.payment.specs.Payments.{allHeard, hasStamp, heardFrom, inPhase, isPosted, isTime, lastTime, stampOf, timeFrom}
+use Rattle.payment.specs.Payments.{allHeard, hasStamp, heardFrom, inPhase, isPosted, isTime, lastTime, proposal, stampOf, timeFrom}
 use Rattle.right.specs.Right.{heardRight, lawful, notAboveClock, numberNotZero, numbersDiffer, timesDiffer}
+use Rattle.payment.specs.Stamps.{below}
 use Rattle.payment.specs.declared.Payment.{Payment}
-use Rattle.payment.proofs.GreatestLaws.{greatest-ledger}
 use Rattle.payment.proofs.HearLaws.{Hears}
 use Rattle.right.proofs.RightLaws.{later-stamp, proposed-own, waiting-others}
 use Rattle.held.specs.Held.{at, limit, placeOf}
@@ -41,7 +41,7 @@ pub record Brings (l : Ledger) (f : Incoming) (w t phase clock : ℕ) (q : Payme
   pub so-far : ((phase ≡ 0) × (heardFrom q (l .own .0) ≡ false)) ⊎ ((phase ≡ 1) × (heardFrom q (l .own .0) ≡ true))
   pub own-time : heardFrom q (l .own .0) ≡ true → timeFrom q (l .own .0) ≤ clock
   pub own-late : heardFrom q (l .own .0) ≡ true → (j : ℕ) → j < limit → isPosted (at (l .payments) j) ≡ true
-      → stampOf (at (l .payments) j) .time .0 < timeFrom q (l .own .0)
+      → below (stampOf (at (l .payments) j)) (proposal (q .times) (l .own .0)) ≡ true
   pub later : l .clock .0 ≤ clock
   pub in-time : clock ≤ lastTime
 
@@ -134,10 +134,6 @@ module _ (l : Ledger) (f : Incoming) (s : Almost l) (shape : Shaped l) (a : Acce
         let mine = same j (apart-now j h u o) in
         (apart-so r (at (l .payments) j) mine, apart-so (at (l .payments) j) r (apart-sym r (at (l .payments) j) mine))
 
-  -- a stamp's ledger is one of the eight
-  stamp-ledger : (j : ℕ) → stampOf (at (l .payments) j) .ledger .0 ≤ 8
-  stamp-ledger j = greatest-ledger (at (l .payments) j .times) (at (l .payments) j .heard) 8
-
   pub fits-stamped : allHeard q ≡ true
       → Fits l (countFor l f) (record { 0 = max clock (stampOf q .time .0) }) (placeFor l f) (inPhase 2 q)
   fits-stamped e =
@@ -163,8 +159,7 @@ module _ (l : Ledger) (f : Incoming) (s : Almost l) (shape : Shaped l) (a : Acce
         other-times = other-times-now (inPhase 2 q) refl refl (λ j x. x);
         behind-posted = λ j h u o p.
             after-stamped (l .own .0) (stampOf (at (l .payments) j)) (inPhase 2 q) refl
-            ∙ below-stamp (stampOf (at (l .payments) j)) q (l .own .0) (stamp-ledger j) (group .0) (group .1) (all-own e)
-            (n .own-late (all-own e) j h p);
+            ∙ below-stamp (stampOf (at (l .payments) j)) q (l .own .0) (group .0) (group .1) (all-own e) (n .own-late (all-own e) j h p);
       }
 
   pub fits-open : allHeard q ≡ false → Fits l (countFor l f) (record { 0 = clock }) (placeFor l f) q
@@ -194,7 +189,7 @@ module _ (l : Ledger) (f : Incoming) (s : Almost l) (shape : Shaped l) (a : Acce
             ⊎-elim
             (λ x. after-other (l .own .0) (stampOf (at (l .payments) j)) q (λ z. two (sym (n .phase-is ∙ x .0) ∙ z))
             (λ z. one (sym (n .phase-is ∙ x .0) ∙ z)))
-            (λ x. after-proposed (l .own .0) (stampOf (at (l .payments) j)) q (n .phase-is ∙ x .0) ∙ lt-ltb _ _ (n .own-late (x .1) j h p))
+            (λ x. after-proposed (l .own .0) (stampOf (at (l .payments) j)) q (n .phase-is ∙ x .0) ∙ n .own-late (x .1) j h p)
             (n .so-far);
       }
     where

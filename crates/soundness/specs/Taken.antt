@@ -8,10 +8,10 @@ use lib.ListN.{drop, length}
 use Rattle.common.specs.Order.{Rising}
 use Rattle.common.specs.Places.{All, In}
 use Rattle.ledgers.specs.Ledgers.{mostLedgers}
-use Rattle.payment.specs.Payments.{heardFrom, proposal, stampOf}
+use Rattle.payment.specs.Payments.{hasStamp, heardFrom, isPosted, isProposed, proposal, stampOf}
 use Rattle.payment.specs.Stamps.{below}
 use Rattle.payment.specs.declared.Payment.{Payment}
-use Rattle.held.specs.Held.{limit}
+use Rattle.held.specs.Held.{at, limit}
 use Rattle.posting.specs.Posting.{afterPosting, before, isFree, noneFree, numbers, toPost}
 use Rattle.ledger.specs.Sound.{sound}
 use Rattle.ledger.specs.Step.{Outcome, step}
@@ -33,6 +33,19 @@ pub record Posts (after : Ledger) (list : List ℕ) (o : Outcome) : Type 0 where
   pub payments-are : o .state .payments ≡ afterPosting (after .payments) (after .own .0)
   -- [S9] afterwards no stamped payment is free
   pub none-left : noneFree (o .state .payments) (o .state .own .0) ≡ true
+
+-- [R42] what holds the payment at place i back: one that is still proposed here, with an own proposal below that payment's stamp
+pub record HeldBackBy (l : Ledger) (i : ℕ) : Type 0 where
+  pub holder : ℕ
+  pub within : holder < limit
+  pub is-proposed : isProposed (at (l .payments) holder) ≡ true
+  pub is-below : below (proposal (at (l .payments) holder .times) (l .own .0)) (stampOf (at (l .payments) i)) ≡ true
+
+-- [R43, S9, S11] a payment that has its stamp is unposted exactly if another holds it back
+abbrev pub UnpostedExactlyIfHeldBack : Ledger → Type 0
+UnpostedExactlyIfHeldBack l =
+    (i : ℕ) → i < limit → hasStamp (at (l .payments) i) ≡ true
+    → (isPosted (at (l .payments) i) ≡ false → HeldBackBy l i) × (HeldBackBy l i → isPosted (at (l .payments) i) ≡ false)
 
 -- [R31] the stamp of a payment is the proposal of a ledger that was heard, and no proposal that was heard is above it
 pub record IsGreatest (p : Payment) : Type 0 where

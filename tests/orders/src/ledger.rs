@@ -58,11 +58,16 @@ impl Place {
         self.times[ledger as usize - 1] = time;
     }
 
+    /// A ledger's proposal, as a stamp.
+    pub fn proposal_of(&self, ledger: u8) -> Stamp {
+        Stamp { time: self.time_of(ledger), ledger }
+    }
+
     /// The greatest proposal: the stamp, once every destination is heard.
     pub fn stamp(&self) -> Option<Stamp> {
         (1..=MOST_LEDGERS)
             .filter(|ledger| self.has_heard(*ledger))
-            .map(|ledger| Stamp { time: self.time_of(ledger), ledger })
+            .map(|ledger| self.proposal_of(ledger))
             .max()
     }
 }
@@ -105,7 +110,7 @@ impl Ledger {
         self.step_with(None, frame, outgoing, list)
     }
 
-    /// The step, with one of the desks' mistakes or none.
+    /// The step, with one of the mistakes or none.
     pub fn step_with(
         &mut self,
         mistake: Option<Mistake>,
@@ -196,7 +201,7 @@ impl Ledger {
         let mut free: Vec<usize> = (0..self.count)
             .filter(|index| self.places[*index].phase == Phase::Stamped)
             .filter(|index| {
-                mistake == Some(Mistake::PostsWhenStamped) || !self.is_held_back(*index)
+                mistake == Some(Mistake::PostsWhenStamped) || !self.is_held_back(mistake, *index)
             })
             .filter(|index| mistake != Some(Mistake::ForgetsTheHeldBack) || *index == touched)
             .collect();
@@ -214,10 +219,13 @@ impl Ledger {
         free.len()
     }
 
-    fn is_held_back(&self, index: usize) -> bool {
-        let time = self.places[index].stamp().map_or(0, |stamp| stamp.time);
-        self.held()
-            .iter()
-            .any(|other| other.phase == Phase::Proposed && other.time_of(self.own) <= time)
+    fn is_held_back(&self, mistake: Option<Mistake>, index: usize) -> bool {
+        let stamp = self.places[index].stamp().expect("a stamped payment was heard");
+        let proposed = self.held().iter().filter(|other| other.phase == Phase::Proposed);
+        proposed.map(|other| other.proposal_of(self.own)).any(|own| match mistake {
+            Some(Mistake::HoldsBackAtEqualTimes) => own.time <= stamp.time,
+            Some(Mistake::HoldsBackAtSmallerTimesOnly) => own.time < stamp.time,
+            _ => own < stamp,
+        })
     }
 }

@@ -74,13 +74,13 @@ fn postings_fit(ledger: &Ledger) -> bool {
     let in_phase = |phase| ledger.held().iter().filter(move |place| place.phase == phase);
     let last_posted = in_phase(Phase::Posted).filter_map(Place::stamp).max();
     let first_stamped = in_phase(Phase::Stamped).filter_map(Place::stamp).min();
-    let first_proposed = in_phase(Phase::Proposed).map(|place| place.time_of(ledger.own)).min();
+    let first_proposed = in_phase(Phase::Proposed).map(|place| place.proposal_of(ledger.own)).min();
 
     let none_is_free =
-        first_stamped.is_none_or(|stamp| first_proposed.is_some_and(|time| time <= stamp.time));
+        first_stamped.is_none_or(|stamp| first_proposed.is_some_and(|own| own < stamp));
     let posted_come_first = last_posted.is_none_or(|posted| {
         first_stamped.is_none_or(|stamp| posted < stamp)
-            && first_proposed.is_none_or(|time| posted.time < time)
+            && first_proposed.is_none_or(|own| posted < own)
     });
     none_is_free && posted_come_first
 }

@@ -1,6 +1,5 @@
-use mathlib.Core.Path.{ap, sym, _∙_}
+use mathlib.Core.Path.{_≡_, ap, sym, _∙_}
 use mathlib.Core.Bool.{not, _||_}
-use lib.Dec.{ltb}
 use borrow.Author.Needs.{needs}
 use Rattle.payment.specs.Payments.{isProposed}
 use Rattle.payment.specs.Stamps.{below}
@@ -17,12 +16,13 @@ returns c =
 
 returns-2 : tie.Need-returns-2
 returns-2 c =
-    let c₂ = c .before .before in
-    let c₄ = c₂ .before .before in
-    let a = c₄ .before .before .before .args in
-    ap (λ t. not (isProposed (a .p)) || ltb (a .stamp .time .0) (t .0)) (c₂ .time-in .ensures)
-    ∙ sym (after-unstamped (a .own .0) (a .stamp) (a .p) (c₄ .if1 .left))
+    let c₃ = c .before .before .before in
+    let a = c₃ .before .before .before .args in
+    let stamp-is-below : c .is-below2 .result ≡ below (a .stamp) (c .before .proposal .result) = c .is-below2 .ensures in
+    ap (λ b. not (isProposed (a .p)) || b) (stamp-is-below ∙ ap (below (a .stamp)) (c .before .proposal .ensures))
+    ∙ sym (after-unstamped (a .own .0) (a .stamp) (a .p) (c₃ .if1 .left))
 
 pub comes-after-spec : {M : Type 1} → statement M
 comes-after-spec =
-    tie.close (tie.spec (λ c κs. search needs) (λ c κs. search needs) returns (λ c κs. search needs) returns-2)
+    tie.close
+    (tie.spec (λ c κs. search needs) (λ c κs. search needs) returns (λ c κs. search needs) (λ c κs. search needs) returns-2)

@@ -1,10 +1,9 @@
 use mathlib.Core.Path.{_≡_, ap, sym, _∙_}
 use mathlib.Core.Logic.{⊎-elim}
 use native.Mathlib.Omega.{arith}
-use Prim.Native.Nat.{_+_, _-_, _≤_}
-use Rattle.payment.specs.Payments.{greatest, proposal}
+use Prim.Native.Nat.{_-_, _≤_}
+use Rattle.payment.specs.Payments.{greatest}
 use Rattle.payment.specs.Stamps.{below}
-use Rattle.payment.specs.declared.Stamp.{Stamp}
 use Rattle.payment.proofs.PaymentLaws.{greatest-keeps, greatest-next, greatest-unheard}
 use borrow.Author.Needs.{needs}
 use Rattle.payment.proofs.pick.Statement.{statement}
@@ -29,15 +28,11 @@ loop-again c =
     let is = c .before .among .ensures in (
       search needs,
       ⊎-elim
-          (λ w. let same : _≡_ {A = Stamp} (record { time = w .1 .result; ledger = record { 0 = head .k + 1 } })
-          (proposal times (head .k + 1)) = ap (λ t. record { time = t; ledger = record { 0 = head .k + 1 } }) (w .1 .ensures) in
-          w .4 ∙ same ∙ greatest-next times heard (head .k) (head .best) (head .inv .1) (sym is ∙ w .0 .taken)
-          (ap (below (head .best)) (sym same) ∙ sym (w .2 .ensures) ∙ w .3 .taken))
+          (λ w. w .4 ∙ w .1 .ensures ∙ greatest-next times heard (head .k) (head .best) (head .inv .1) (sym is ∙ w .0 .taken)
+          (ap (below (head .best)) (sym (w .1 .ensures)) ∙ sym (w .2 .ensures) ∙ w .3 .taken))
           (⊎-elim
-          (λ w. let same : _≡_ {A = Stamp} (record { time = w .1 .result; ledger = record { 0 = head .k + 1 } })
-          (proposal times (head .k + 1)) = ap (λ t. record { time = t; ledger = record { 0 = head .k + 1 } }) (w .1 .ensures) in
-          w .4 ∙ greatest-keeps times heard (head .k) (head .best) (head .inv .1)
-          (ap (below (head .best)) (sym same) ∙ sym (w .2 .ensures) ∙ w .3 .left))
+          (λ w. w .4 ∙ greatest-keeps times heard (head .k) (head .best) (head .inv .1)
+          (ap (below (head .best)) (sym (w .1 .ensures)) ∙ sym (w .2 .ensures) ∙ w .3 .left))
           (λ w. w .1 ∙ greatest-unheard times heard (head .k) (head .best) (head .inv .1) (sym is ∙ w .0 .left)))
           (c .if1 .came),
     )
