@@ -1,4 +1,5 @@
 // Runs case K [CK] over the proved ledger, and cases A to C [CA to CC] once more, by the code itself. All at ledger 1 of 2.
+#![tactic(auto)]
 mod calls;
 mod lines;
 

@@ -1,4 +1,5 @@
 // The drill: reads records from standard input, does each to its ledgers, and prints what came of it.
+#![tactic(auto)]
 mod bytes;
 
 ghost use Rattle.std.specs.Prelude.{◌≤◌, drop, length, take};

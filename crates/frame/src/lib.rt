@@ -1,19 +1,21 @@
 // Frames: the three number types that cannot be mixed up [N7, X2], and the reading and writing of frames [F1 to F7].
+#![tactic(auto)]
+
 ghost use Rattle.std.specs.Prelude.{◌≡◌, ◌+◌, ◌≤◌, length, take, drop};
 ghost use Rattle.std.proofs.lemmas.List.Edits.{sets};
 ghost use Rattle.frame.specs.Digits.{bytes_of, number_of};
 ghost use Rattle.frame.specs.Frames.{told, reading, wrote, writing};
 
-#[derive(Drop)]
+#[derive(Clone, Copy)]
 pub struct LedgerNo(pub u8);
 
-#[derive(Drop)]
+#[derive(Clone, Copy)]
 pub struct PaymentNo(pub u32);
 
-#[derive(Drop)]
+#[derive(Clone, Copy)]
 pub struct Time(pub u16);
 
-#[derive(Drop)]
+#[derive(Clone, Copy)]
 pub enum Frame {
     Multicast {
         payment: PaymentNo,

@@ -1,4 +1,5 @@
 // A ledger of a cash desk: what it keeps, when that is sound, the set-up, and the step for one incoming frame.
+#![tactic(auto)]
 mod rules;
 mod sound;
 

@@ -1,4 +1,6 @@
 // Ledgers: the numbers of a group [N1], and the bytes that name some of its ledgers [N6].
+#![tactic(auto)]
+
 ghost use Rattle.std.specs.Prelude.{◌≡◌};
 ghost use Rattle.ledgers.specs.Ledgers.{has, how_many, is_group, is_ledger_of, unlawful, without};
 

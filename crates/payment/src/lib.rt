@@ -1,4 +1,6 @@
 // One payment's record [K4, K5]: its destinations, the times they proposed, which of them were heard, and its phase.
+#![tactic(auto)]
+
 ghost use Rattle.std.specs.Prelude.{◌≡◌, max};
 ghost use Rattle.payment.specs.Payments.{greatest, has_proposal, hear, new_payment, proposal, stamp_of, time_in};
 ghost use Rattle.payment.specs.Stamps.{below};
@@ -17,14 +19,14 @@ pub const POSTED: u8 = 3;
 // [N3] The last time.
 pub const LAST_TIME: u16 = 60000;
 
-#[derive(Drop)]
+#[derive(Clone, Copy)]
 pub struct Stamp {
     pub time: Time,
     pub ledger: LedgerNo,
 }
 
 // What is kept for one payment.
-#[derive(Drop)]
+#[derive(Clone, Copy)]
 pub struct Payment {
     pub number: PaymentNo,
     // [N6] One bit for each ledger.

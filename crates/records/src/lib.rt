@@ -1,4 +1,6 @@
 // The drill's records: how long one is, whether it ends the run, and what one can do [D2 to D4, D8].
+#![tactic(auto)]
+
 ghost use Rattle.std.specs.Prelude.{◌≡◌};
 ghost use Rattle.records.specs.Records.{record_total, stops};
 

@@ -1,4 +1,5 @@
 // The rows of the table that judge a frame [A3 to A11], in their order.
+#![tactic(auto)]
 ghost use Rattle.std.specs.Prelude.{◌≡◌};
 ghost use Rattle.frame.specs.Frames.{values_of};
 ghost use Rattle.refusals.specs.Refusals.{bad_source, bad_time, clock_at_end, conflict, first_given, found, incoming};
