@@ -1,5 +1,6 @@
 // The payments that a ledger holds, each at its place.
 #![tactic(auto)]
+
 ghost use Rattle.std.specs.Prelude.{◌≡◌};
 ghost use Rattle.held.specs.Held.{held_for_another, place_of};
 

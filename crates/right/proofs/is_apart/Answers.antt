@@ -1,0 +1,5 @@
+
+use Rattle.right.proofs.is_apart.Goals as goal
+
+pub returns : goal.returns
+returns c = rw c.times_differ.ensures
