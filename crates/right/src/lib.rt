@@ -1,5 +1,6 @@
 // What soundness asks of one held payment, of two, and of an unused place [S2 to S8].
 #![tactic(auto)]
+
 ghost use Rattle.std.specs.Prelude.{◌≡◌};
 ghost use Rattle.right.specs.Right.{apart, heard_right, not_above_clock, phase_right, right, time_right, times_differ, unused};
 

@@ -1,9 +1,7 @@
 use mathlib.Core.Path.{◌≡◌, sym, ◌∙◌}
-use mathlib.Core.Bool.{true}
 use native.Mathlib.Omega.{arith}
 use native.Mathlib.Numerals.{add-one}
-use Prim.Native.Nat.{suc, ◌-◌, ◌≤◌}
-use borrow.Author.Tests.{not-false, not-true}
+use Prim.Native.Nat.{suc}
 use Rattle.common.specs.Places.{every}
 use Rattle.common.proofs.PlaceLaws.{every-fails, every_more}
 use Rattle.right.specs.Right.{heard_right, time_right}
@@ -20,7 +18,7 @@ returns-then-not-time_right c =
     let head = c.loop-k in
     let p = c.args.p in
     sym (every-fails 8 (λ j. time_right p (suc j)) head.k c.loop-k-test.true
-    (rw (add-one head.k) at (sym c.time_right.ensures ∙ not-true _ c.if-not-time_right.true)))
+    (rw (add-one head.k) at (sym c.time_right.ensures ∙ c.if-not-time_right.true)))
 
 pub loop-k-preserved : goal.loop-k-preserved
 loop-k-preserved c =
@@ -28,7 +26,7 @@ loop-k-preserved c =
     let p = c.args.p in (
       search rules,
       every_more (λ j. time_right p (suc j)) head.k head.invariant.1
-          (rw (add-one head.k) at (sym c.time_right.ensures ∙ not-false _ c.if-not-time_right.false)),
+          (rw (add-one head.k) at (sym c.time_right.ensures ∙ c.if-not-time_right.false)),
     )
 
 pub returns : goal.returns

@@ -1,13 +1,8 @@
-use mathlib.Core.Path.{◌≡◌, sym, ◌∙◌}
+use mathlib.Core.Path.{◌≡◌}
 use mathlib.Core.Bool.{true}
-use native.Mathlib.Omega.{arith}
-use native.Mathlib.Numerals.{add-one}
 use Prim.Native.Nat.{suc, ◌-◌, ◌≤◌}
-use borrow.Author.Tests.{not-false, not-true}
 use Rattle.common.specs.Places.{every}
-use Rattle.common.proofs.PlaceLaws.{every-fails, every_more}
-use Rattle.right.specs.Right.{heard_right, time_right}
-use Rattle.std.proofs.Common.{rules}
+use Rattle.right.specs.Right.{time_right}
 use Rattle.right.proofs.heard_right.Given as goal
 
 abbrev pub invariant-loop-k : goal.invariant-loop-k

@@ -1,4 +1,3 @@
-
 use Rattle.right.proofs.is_apart.Goals as goal
 
 pub returns : goal.returns

@@ -1,13 +1,8 @@
-use mathlib.Core.Path.{◌≡◌, ap, ap₂, sym, ◌∙◌}
-use mathlib.Core.Bool.{true, not, ◌&&◌}
-use native.Mathlib.Omega.{arith}
-use native.Mathlib.Numerals.{add-one}
-use Prim.Native.Nat.{suc, ◌+◌, ◌-◌, ◌≤◌}
+use mathlib.Core.Path.{◌≡◌}
+use mathlib.Core.Bool.{true, not}
+use Prim.Native.Nat.{suc, ◌-◌, ◌≤◌}
 use Rattle.common.specs.Places.{every}
-use Rattle.common.proofs.PlaceLaws.{every-fails, every_more}
-use Rattle.payment.specs.Payments.{has_proposal}
-use Rattle.right.proofs.RightLaws.{differ-shared, shared}
-use Rattle.std.proofs.Common.{rules}
+use Rattle.right.proofs.RightLaws.{shared}
 use Rattle.right.proofs.times_differ.Given as goal
 
 abbrev pub invariant-loop-k : goal.invariant-loop-k

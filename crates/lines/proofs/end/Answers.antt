@@ -1,0 +1,5 @@
+
+use Rattle.lines.proofs.end.Goals as goal
+
+pub returns : goal.returns
+returns c = c.named.ensures
