@@ -1,5 +1,6 @@
 // Posting: which stamped payments are free, and posting them by stamp [R41 to R44].
 #![tactic(auto)]
+
 ghost use Rattle.std.specs.Prelude.{◌≡◌};
 ghost use Rattle.common.specs.Order.{least};
 ghost use Rattle.held.specs.Held.{limit};
