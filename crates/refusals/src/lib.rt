@@ -1,5 +1,6 @@
 // The rows of the table that judge a frame [A3 to A11], in their order.
 #![tactic(auto)]
+
 ghost use Rattle.std.specs.Prelude.{◌≡◌};
 ghost use Rattle.frame.specs.Frames.{values_of};
 ghost use Rattle.refusals.specs.Refusals.{bad_source, bad_time, clock_at_end, conflict, first_given, found, incoming};
@@ -10,7 +11,7 @@ use held::HELD;
 use payment::{LAST_TIME, Payment};
 
 // A frame's values; a MULTICAST has source 0 and time 0.
-#[derive(Drop)]
+#[derive(Clone, Copy)]
 pub struct Incoming {
     pub kind: u8,
     pub payment: PaymentNo,
@@ -21,7 +22,7 @@ pub struct Incoming {
 
 // What judging a frame tells: the first of the answers 3 to 11 that applies, 0 where none does; the frame's values; whether its
 // payment is held; that payment, the held one or a new one, and its place.
-#[derive(Drop)]
+#[derive(Clone, Copy)]
 pub struct Judged {
     pub answer: u8,
     pub frame: Incoming,
