@@ -1,5 +1,6 @@
 // What a ledger sends for a frame that it takes [R13, R14, R22].
 #![tactic(auto)]
+
 ghost use Rattle.std.specs.Prelude.{◌≡◌};
 ghost use Rattle.sending.specs.Sending.{recipients, written};
 
