@@ -1,5 +1,6 @@
 // The lines that the drill prints [D6 to D10].
 #![tactic(auto)]
+
 ghost use Rattle.std.specs.Prelude.{◌≡◌, [], ◌∷◌, map, ◌+◌, ◌*◌, ◌≤◌, min, length, take};
 ghost use Rattle.held.specs.Held.{limit};
 ghost use Rattle.lines.specs.Decimal.{decimal};

@@ -12,5 +12,5 @@ returns c =
     (then (word ++ (32 ∷ []) ++ decimal a.n) (10 ∷ [])
     (then (word ++ (32 ∷ [])) (decimal a.n)
     (then word (32 ∷ []) c.text-after.ensures c.put-begun.ensures)
-    c.number-end.ensures.0)
+    c.number-end.ensures.stands)
     c.put.ensures))

@@ -1,13 +1,11 @@
 -- `postings` meets its contract: after i turns the first i postings stand.
 -- Assumes nothing.
-use Prim.Native.Nat.{◌≤◌, ◌+◌, ◌*◌, ◌-◌}
 use mathlib.Core.Path.{◌≡◌, ap}
 use mathlib.Core.List.{◌∷◌, map}
 use native.Mathlib.Omega.{arith}
 use lib.ListN.{get_or, take}
 use Rattle.lines.specs.Lines.{posting, spaced}
-use Rattle.lines.specs.Standing.{Stands}
-use Rattle.lines.proofs.TextLaws.{kept, none, same, spaced-more, then, wide}
+use Rattle.lines.proofs.TextLaws.{none, same, spaced-more, then}
 use Rattle.std.proofs.Common.{rules}
 use Rattle.lines.proofs.postings.Goals as goal
 
@@ -15,23 +13,17 @@ pub loop-i-init : goal.loop-i-init
 unfolding spaced
 loop-i-init c = (search rules, search rules, none _ _)
 
-pub overflow_cast-list : goal.overflow_cast-list
-overflow_cast-list c = wide (c.shared_slice_known-in-loop-i-1.given _)
-
 pub loop-i-preserved : goal.loop-i-preserved
 loop-i-preserved c =
     let list = c.args.list.now in
     let i = c.loop-i.i in (
       search rules,
-      omega (arith, c.item-next.ensures.1),
-      same (spaced-more posting list i (omega arith)) (then _ (32 ∷ posting (get_or list i 0)) c.loop-i.invariant.2 c.item-next.ensures.0),
+      omega (arith, c.item-next.ensures.short),
+      same (spaced-more posting list i (omega arith)) (then _ (32 ∷ posting (get_or list i 0)) c.loop-i.invariant.2 c.item-next.ensures.stands),
     )
 
-pub shape_of-out : goal.shape_of-out
-shape_of-out c = kept c.loop-i.invariant.2
-
-pub returns : goal.returns
-returns c =
+pub returns-clause-stands : goal.returns-clause-stands
+returns-clause-stands c =
     let a = c.args in
     let end : c.loop-i.i ≡ a.count = omega arith in
-    (same (ap (λ n. spaced (map posting (take n a.list.now))) end) c.loop-i.invariant.2, omega arith)
+    same (ap (λ n. spaced (map posting (take n a.list.now))) end) c.loop-i.invariant.2

@@ -1,14 +1,10 @@
 -- `postings` meets its contract: after i turns the first i postings stand.
 -- Assumes nothing.
 use Prim.Native.Nat.{◌≤◌, ◌+◌, ◌*◌, ◌-◌}
-use mathlib.Core.Path.{◌≡◌, ap}
-use mathlib.Core.List.{◌∷◌, map}
-use native.Mathlib.Omega.{arith}
-use lib.ListN.{get_or, take}
+use mathlib.Core.List.{map}
+use lib.ListN.{take}
 use Rattle.lines.specs.Lines.{posting, spaced}
 use Rattle.lines.specs.Standing.{Stands}
-use Rattle.lines.proofs.TextLaws.{kept, none, same, spaced-more, then, wide}
-use Rattle.std.proofs.Common.{rules}
 use Rattle.lines.proofs.postings.Given as goal
 
 abbrev pub invariant-loop-i : goal.invariant-loop-i

@@ -17,13 +17,13 @@ returns c =
     let count = c.least-2.ensures ∙ ap (λ n. min n (length list)) c.least.ensures in
     let posted =
     same (ap (λ n. spaced (map posting (take n list))) count ∙ ap (λ l. spaced (map posting l)) (take-least (min a.count limit) list))
-    c.postings-posted.ensures.0 in
+    c.postings-posted.ensures.stands in
     whole _
     (same (step_line first (answer a.given) items)
     (then (first ++ (32 ∷ answer a.given) ++ spaced items) (10 ∷ [])
     (then (first ++ (32 ∷ answer a.given)) (spaced items)
     (then first (32 ∷ answer a.given)
-    (then (76 ∷ []) (decimal a.ledger) c.put-letter.ensures c.number-stepped.ensures.0)
-    c.item-answered.ensures.0)
+    (then (76 ∷ []) (decimal a.ledger) c.put-letter.ensures c.number-stepped.ensures.stands)
+    c.item-answered.ensures.stands)
     posted)
     c.put.ensures))

@@ -1,14 +1,13 @@
 -- `text` meets its contract: after i turns the first i bytes stand.
 -- Assumes nothing.
-use Prim.Native.Nat.{ℕ, ◌≤◌, ◌+◌, ◌-◌}
-use mathlib.Core.Path.{◌≡◌, ap, sym, ◌∙◌}
+use Prim.Native.Nat.{ℕ}
+use mathlib.Core.Path.{ap, sym, ◌∙◌}
 use mathlib.Core.List.{[], ◌∷◌}
 use native.Mathlib.Numerals.{add-one}
 use native.Mathlib.Omega.{arith}
-use lib.ListN.{length, get_or, take}
+use lib.ListN.{get_or, take}
 use lib.Seq.{take_all, take-suc}
-use Rattle.lines.specs.Standing.{Stands}
-use Rattle.lines.proofs.TextLaws.{kept, none, same, then}
+use Rattle.lines.proofs.TextLaws.{none, same, then}
 use Rattle.std.proofs.Common.{rules}
 use Rattle.lines.proofs.text.Goals as goal
 
@@ -26,9 +25,6 @@ loop-i-preserved c =
       same (sym (ap (λ (n : ℕ). take n a.bytes.now) (add-one head.i) ∙ take-suc a.bytes.now head.i 0 (omega arith)))
           (then (take head.i a.bytes.now) (get_or a.bytes.now head.i 0 ∷ []) head.invariant.3 put.ensures),
     )
-
-pub shape_of-out : goal.shape_of-out
-shape_of-out c = kept c.loop-i.invariant.3
 
 pub returns : goal.returns
 returns c = same (take_all c.loop-i.i _ (omega arith)) c.loop-i.invariant.3
