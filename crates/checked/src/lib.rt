@@ -1,5 +1,6 @@
 // What soundness asks of the held payments together [S2 to S8, S10, S11].
 #![tactic(auto)]
+
 ghost use Rattle.std.specs.Prelude.{◌≡◌, ◌<◌};
 ghost use Rattle.right.specs.Right.{apart, right};
 ghost use Rattle.held.specs.Held.{limit};

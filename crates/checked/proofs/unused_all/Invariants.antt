@@ -1,0 +1,13 @@
+use mathlib.Core.Path.{◌≡◌}
+use mathlib.Core.Bool.{true}
+use Prim.Native.Nat.{◌-◌, ◌≤◌}
+use Rattle.common.specs.Places.{every}
+use Rattle.held.specs.Held.{limit}
+use Rattle.checked.specs.Checked.{unused_at}
+use Rattle.checked.proofs.unused_all.Given as goal
+
+abbrev pub invariant-loop-i : goal.invariant-loop-i
+invariant-loop-i l = (l.i ≤ limit) × (every l.i (unused_at l.payments l.count) ≡ true)
+
+abbrev pub decreases-loop-i : goal.decreases-loop-i
+decreases-loop-i l = limit - l.i
