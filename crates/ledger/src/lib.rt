@@ -1,5 +1,6 @@
 // A ledger of a cash desk: what it keeps, when that is sound, the set-up, and the step for one incoming frame.
 #![tactic(auto)]
+
 mod rules;
 mod sound;
 
@@ -12,7 +13,7 @@ use held::HELD;
 use payment::Payment;
 
 // [K1] What a ledger keeps.
-#[derive(Drop)]
+#[derive(Clone, Copy)]
 pub struct Ledger {
     // N: the ledgers are 1 to this.
     pub group: u8,
@@ -25,20 +26,20 @@ pub struct Ledger {
     pub payments: [Payment; HELD],
 }
 
-#[derive(Drop)]
+#[derive(Clone, Copy)]
 pub struct SetUp {
     pub state: Ledger,
     pub answer: u8,
 }
 
-#[derive(Drop)]
+#[derive(Clone, Copy)]
 struct PostedLedger {
     state: Ledger,
     count: usize,
 }
 
 // [R2] What a step hands back.
-#[derive(Drop)]
+#[derive(Clone, Copy)]
 pub struct Step {
     pub state: Ledger,
     // The number in the table: 0 taken, 1 to 11 refused or a repeat.
