@@ -12,7 +12,7 @@ use Rattle.ledgers.specs.Ledgers.{is_ledger_of, most_ledgers, without}
 use Rattle.payment.specs.Payments.{last_time}
 use Rattle.payment.specs.declared.Payment.{Payment}
 use Rattle.ledger.specs.State.{fresh, set_up}
-use Rattle.ledger.specs.Step.{recipients_of, sent, taken}
+use Rattle.ledger.specs.Step.{recipients_of}
 use Rattle.refusals.specs.declared.Incoming.{Incoming}
 use Rattle.ledger.specs.declared.Ledger.{Ledger}
 use Rattle.ledger.specs.declared.SetUp.{SetUp}
@@ -22,7 +22,7 @@ use Rattle.common.specs.Places.{In}
 use Rattle.agreement.specs.Run.{Call, Written, Entry, Lawful, May, World, called, start}
 use Rattle.agreement.specs.Claims.{Holds}
 use Rattle.agreement.proofs.Hearing.{Heard, HeardTime, has-from, heard-from, heard-goes, heard-now}
-use Rattle.agreement.proofs.Calls.{Well, answer, by_call, frame_of, heard-stays, view, well-stays}
+use Rattle.agreement.proofs.Calls.{Well, by_call, frame_of, heard-stays, view, well-stays}
 use Rattle.agreement.proofs.Written.{copies-from, copies_kept, copies-new, copy_is, new_copy, taken-call}
 use Rattle.agreement.proofs.Copies.{FromDesk, FromLedger, Sent, copy_of, from-desk, from-ledger, in-byte}
 use Rattle.ledgers.proofs.OtherLaws.{other-destination}

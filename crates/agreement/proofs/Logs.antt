@@ -4,7 +4,7 @@ use Prim.Native.Nat.{ℕ, ◌<◌}
 use mathlib.Core.Path.{◌≡◌, refl, ap, sym, ◌∙◌, subst}
 use mathlib.Core.List.{List, ◌++◌}
 use mathlib.Core.Bool.{Bool, true, false, cond, ◌||◌}
-use mathlib.Core.Logic.{◌⊎◌, ⊎_elim}
+use mathlib.Core.Logic.{⊎_elim}
 use borrow.Author.Tests.{eq-eqb}
 use Rattle.common.specs.Places.{In}
 use Rattle.common.proofs.TestLaws.{both, or-true, split}

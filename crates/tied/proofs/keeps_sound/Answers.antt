@@ -1,4 +1,4 @@
-use borrow.Author.Rules.{rules}
+-- what the ledger's type says
 use native.Mathlib.Omega.{arith}
 use Prim.Native.Nat.{◌<◌}
 use mathlib.Core.Path.{◌≡◌, ap, ◌∙◌}
@@ -8,13 +8,12 @@ use Rattle.ledger.specs.Sound.{sound}
 use Rattle.soundness.specs.Shaped.{Shaped}
 use Rattle.soundness.proofs.Steps.{step-sound}
 use Rattle.tied.proofs.Values.{each_at}
-use Rattle.tied.proofs.keeps_sound.Statement.{statement}
-use Rattle.tied.proofs.keeps_sound.Tie as tie
+use Rattle.tied.proofs.keeps_sound.Goals as goal
 
 -- what the ledger's type says
 shaped : (s : tie.Start) → Shaped s.args.ledger
 shaped s =
-    let places = s.well-formed.0.1.1.1.1.1.1.0.1 in
+    let places = s.well_formed.0.1.1.1.1.1.1.0.1 in
     let many : length s.args.ledger.payments ≡ limit = simp length-map at places.0.1 in
     record {
       places = many;
@@ -24,13 +23,9 @@ shaped s =
           places.1 i no_payment (omega arith);
     }
 
-returns : tie.Need-returns
+pub returns : goal.returns
 returns c =
-    let step = c.before.before.before.before.step in
-    let start = c.before.before.before.before.before.before.before.before.before.before in
-    let a = start.args in
+    let step = c.step in
+    let a = c.args in
     λ s. ap (λ o. sound o.state) step.ensures
     ∙ step-sound a.ledger a.frame.now a.outgoing.now a.postings.now (shaped start) s
-
-pub keeps-sound-spec : {M : Type 1} → statement M
-keeps-sound-spec = tie.close (tie.spec (λ c κs. search rules) (λ c. search rules) (λ c. search rules) returns)

@@ -1,0 +1,21 @@
+use mathlib.Core.Path.{refl, ap, sym, ◌∙◌}
+use lib.ListN.{drop, length, take}
+use lib.Seq.{take_at}
+use Rattle.common.proofs.TestLaws.{both}
+use Rattle.frame.specs.Frames.{told}
+use Rattle.frame.proofs.FrameLaws.{wrote-buffer}
+use Rattle.frame.proofs.RoundTrip.{read-written}
+use Rattle.tied.proofs.read_is_written.Goals as goal
+
+pub returns-in-NotAFrame : goal.returns-in-NotAFrame
+returns-in-NotAFrame c = λ e l. both e refl
+
+pub returns-in-Accepted : goal.returns-in-Accepted
+returns-in-Accepted c =
+    let bytes = c.args.bytes.now in
+    let buffer = c.args.buffer.now in
+    λ e l.
+    let again = read-written bytes buffer c.f-1.given.0.0 (λ i. (c.shared_slice_known-1.given i).fits)
+    (ap told (sym c.f-1.given.1) ∙ c.read.ensures) l in
+    let done = sym (wrote-buffer c.write.result _) ∙ ap (λ w. w.buffer) (c.write.ensures ∙ again) in
+    ap (take (length bytes)) done ∙ take_at bytes (drop (length bytes) buffer) (length bytes) refl
