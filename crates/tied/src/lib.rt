@@ -1,5 +1,6 @@
 // What is proved of values, said of what the code hands back: thin functions, each with a theorem for its promise.
 #![tactic(auto)]
+
 ghost use Rattle.std.specs.Prelude.{◌≡◌, true, length, take, ◌≤◌};
 ghost use Rattle.frame.specs.Typed.{Typed};
 ghost use Rattle.ledger.specs.Sound.{sound};

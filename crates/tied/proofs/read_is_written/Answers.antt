@@ -15,7 +15,7 @@ returns-in-Accepted c =
     let bytes = c.args.bytes.now in
     let buffer = c.args.buffer.now in
     λ e l.
-    let again = read-written bytes buffer c.f-1.given.0.0 (λ i. (c.shared_slice_known-1.given i).fits)
-    (ap told (sym c.f-1.given.1) ∙ c.read.ensures) l in
+    let again = read-written bytes buffer c.in-Accepted.f (λ i. (c.type_inv.bytes i).fits)
+    (ap told (sym c.in-Accepted.is) ∙ c.read.ensures) l in
     let done = sym (wrote-buffer c.write.result _) ∙ ap (λ w. w.buffer) (c.write.ensures ∙ again) in
     ap (take (length bytes)) done ∙ take_at bytes (drop (length bytes) buffer) (length bytes) refl
