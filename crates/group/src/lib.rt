@@ -1,5 +1,6 @@
 // The drill's ledgers, and what a record does to them [D2 to D5, D8].
 #![tactic(auto)]
+
 ghost use Rattle.std.specs.Prelude.{◌≡◌, ◌∷◌, ◌+◌, ◌≤◌, drop, length, take, true};
 ghost use Rattle.ledgers.specs.Ledgers.{is_ledger_of};
 ghost use Rattle.records.specs.Records.{frame_kind};
