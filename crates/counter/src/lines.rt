@@ -1,47 +1,47 @@
-// Writing lines to standard output.
-use libc::STDOUT_FILENO;
+// Writing lines to standard output. What cannot be written is lost, without a word.
+use std::io::Print;
 
-pub(crate) fn text(words: &[u8]) {
-    io::write_all(STDOUT_FILENO, words);
+pub(crate) fn text(rt: &impl Print, words: &[u8]) {
+    let _ = rt.write_all(words);
 }
 
 // Words, and a number behind them.
-pub(crate) fn item(words: &[u8], n: u64) {
-    text(words);
-    io::print_decimal(STDOUT_FILENO, n);
+pub(crate) fn item(rt: &impl Print, words: &[u8], n: u64) {
+    text(rt, words);
+    let _ = rt.print(n);
 }
 
-pub(crate) fn payment(words: &[u8], n: u32) {
-    item(words, n as u64);
+pub(crate) fn payment(rt: &impl Print, words: &[u8], n: u32) {
+    item(rt, words, n as u64);
 }
 
-pub(crate) fn end() {
-    text(b"\n");
+pub(crate) fn end(rt: &impl Print) {
+    text(rt, b"\n");
 }
 
-pub(crate) fn answer(n: u8) {
-    item(b" answer ", n as u64);
+pub(crate) fn answer(rt: &impl Print, n: u8) {
+    item(rt, b" answer ", n as u64);
 }
 
-pub(crate) fn clock(n: u16) {
-    item(b" clock ", n as u64);
+pub(crate) fn clock(rt: &impl Print, n: u16) {
+    item(rt, b" clock ", n as u64);
 }
 
 // A line of words, a number and an answer.
-pub(crate) fn answered(words: &[u8], n: u64, a: u8) {
-    item(words, n);
-    answer(a);
-    end();
+pub(crate) fn answered(rt: &impl Print, words: &[u8], n: u64, a: u8) {
+    item(rt, words, n);
+    answer(rt, a);
+    end(rt);
 }
 
-fn byte(b: u8) {
-    text(b" ");
-    io::print_hex(STDOUT_FILENO, b as u64, 2);
+fn byte(rt: &impl Print, b: u8) {
+    text(rt, b" ");
+    let _ = print!(rt; "{b:02x}");
 }
 
 // The bytes of a frame.
-pub(crate) fn bytes(frame: &[u8; 9]) {
+pub(crate) fn bytes(rt: &impl Print, frame: &[u8; 9]) {
     for i in 0..9usize {
-        byte(frame[i]);
+        byte(rt, frame[i]);
     }
 }

@@ -4,7 +4,7 @@ ghost use Rattle.frame.specs.Frames.{kind_in};
 ghost use Rattle.records.specs.Records.{record_total};
 ghost use Rattle.drill.specs.Stream.{waiting};
 
-use libc::STDIN_FILENO;
+use std::io::Read;
 
 // The part of the buffer that is still to be read, whether no more input comes, and whether a read of the input failed.
 #[derive(Drop)]
@@ -70,31 +70,37 @@ fn keep(buffer: &mut [u8], at: usize, filled: usize) -> usize
 }
 
 // Reads once behind the bytes that are left.
-fn refill(buffer: &mut [u8], at: usize, filled: usize) -> Hand
+fn refill<R: Read>(reader: &mut R, buffer: &mut [u8], at: usize, filled: usize) -> Hand
     requires { (at ≤ filled) × (filled ≤ length buffer.old) }
     ensures within { (result.at ≤ result.filled) × (result.filled ≤ length buffer.old) }
     ensures kept { take (filled - at) (drop result.at buffer.new) ≡ take (filled - at) (drop at buffer.old) }
 {
     let kept = keep(buffer, at, filled);
-    let got = libc::read(STDIN_FILENO, &mut buffer[kept..]);
-    let n = io::count(got, &buffer[kept..]);
-    Hand {
-        at: 0,
-        filled: kept + n,
-        last: n == 0,
-        failed: got < 0,
+    match reader.read(&mut buffer[kept..]) {
+        Ok(n) => Hand {
+            at: 0,
+            filled: kept + n,
+            last: n == 0,
+            failed: false,
+        },
+        Err(_) => Hand {
+            at: 0,
+            filled: kept,
+            last: true,
+            failed: true,
+        },
     }
 }
 
 // The bytes at hand from a place on, with more input behind them where no record can be read before it comes.
-pub(crate) fn more(buffer: &mut [u8], hand: Hand, from: usize) -> Hand
+pub(crate) fn more<R: Read>(reader: &mut R, buffer: &mut [u8], hand: Hand, from: usize) -> Hand
     requires { (from ≤ hand.filled) × (hand.filled ≤ length buffer.old) }
     ensures within { (result.at ≤ result.filled) × (result.filled ≤ length buffer.old) }
     ensures kept { take (hand.filled - from) (drop result.at buffer.new) ≡ take (hand.filled - from) (drop from buffer.old) }
 {
     let filled = hand.filled;
     if waits(&buffer[from..filled], hand.last) {
-        return refill(buffer, from, filled);
+        return refill(reader, buffer, from, filled);
     }
     Hand {
         at: from,

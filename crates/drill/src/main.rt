@@ -1,15 +1,19 @@
 // The drill: reads records from standard input, does each to its ledgers, and prints what came of it.
 #![tactic(auto)]
+
 mod bytes;
 
 ghost use Rattle.std.specs.Prelude.{◌≤◌, drop, length, take};
 ghost use Rattle.drill.specs.Stream.{Moves, Prints};
 
 use day::Day;
-use libc::{STDERR_FILENO, STDOUT_FILENO};
+use std::io::{Eprint, Input, Print};
 
 // Every line fits in this.
 const LINE: usize = 1024;
+
+// A call of the system that moves so much costs little beside what is done with it.
+const BUFFER: usize = 65536;
 
 // What was done with the bytes at hand: the day after it, how many were read, and how many bytes are to be printed.
 #[derive(Drop)]
@@ -77,35 +81,37 @@ fn read_all(begun: Day, input: &[u8], last: bool, out: &mut [u8]) -> Pass
 }
 
 // Reads the records at hand, and prints what came of them.
-fn print_all(begun: Day, input: &[u8], last: bool, out: &mut [u8]) -> Printed
+fn print_all(rt: &impl Print, begun: Day, input: &[u8], last: bool, out: &mut [u8]) -> Printed
     ensures { result.read ≤ length input.now }
 {
     let done = read_all(begun, input, last, out);
     let day = done.day;
     let printed = done.printed;
-    let wrote = io::write_all(STDOUT_FILENO, &out[..printed]);
+    let wrote = rt.write_all(&out[..printed]).is_ok();
+    let on = wrote & !day.over;
     Printed {
         day: day,
         read: done.read,
-        on: wrote & !day.over,
+        on: on,
     }
 }
 
 // Prints the last line.
-fn end(day: Day, out: &mut [u8]) {
+fn end(rt: &impl Print, day: Day, out: &mut [u8]) {
     let n = day.close(out);
     if n <= out.len() {
-        io::write_all(STDOUT_FILENO, &out[..n]);
+        let _ = rt.write_all(&out[..n]);
     }
 }
 
 // Tells that the input cannot be read.
-fn complain() {
-    io::write_all(STDERR_FILENO, b"drill: the input cannot be read\n");
+fn complain(rt: &impl Eprint) {
+    let _ = rt.eprintln("drill: the input cannot be read");
 }
 
 // Reads to the end of the input, of the run, or of the output. An input that cannot be read has no end, and so no last line.
-fn run(input: &mut [u8], out: &mut [u8]) {
+fn run(rt: &(impl Input + Print + Eprint), input: &mut [u8], out: &mut [u8]) {
+    let mut reader = rt.reader();
     let mut day = day::begin();
     let mut hand = bytes::none();
     // A proved loop has to end: no run uses up so many turns.
@@ -114,27 +120,27 @@ fn run(input: &mut [u8], out: &mut [u8]) {
         turns -= 1;
         let at = hand.at;
         let filled = hand.filled;
-        let done = print_all(day, &input[at..filled], hand.last, out);
+        let done = print_all(rt, day, &input[at..filled], hand.last, out);
         let next = done.day;
         let from = at + done.read;
         if !done.on {
             return;
         }
         if hand.last & (from == filled) {
-            end(next, out);
+            end(rt, next, out);
             return;
         }
-        hand = bytes::more(input, hand, from);
+        hand = bytes::more(&mut reader, input, hand, from);
         if hand.failed {
-            complain();
+            complain(rt);
             return;
         }
         day = next;
     }
 }
 
-fn main() {
-    let mut input = io::large_buffer();
-    let mut out = io::large_buffer();
-    run(&mut input, &mut out);
+fn main(rt: HostRuntime) {
+    let mut input = [0u8; BUFFER];
+    let mut out = [0u8; BUFFER];
+    run(&rt, &mut input, &mut out);
 }
