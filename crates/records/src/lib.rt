@@ -13,7 +13,7 @@ pub const MULTICAST_RECORD: u8 = 17;
 const PROPOSE_RECORD: u8 = 18;
 
 // What a record did.
-#[derive(Drop)]
+#[derive(Clone, Copy)]
 pub enum Did {
     // The ledgers were started afresh.
     SetUp {
