@@ -1,5 +1,6 @@
 // A day of the drill: where a run over the records stands, what one record does to it, and what is printed.
 #![tactic(auto)]
+
 ghost use Rattle.std.specs.Prelude.{◌≡◌};
 ghost use Rattle.frame.specs.Frames.{kind_in};
 ghost use Rattle.lines.specs.Lines.{wrote};
