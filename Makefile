@@ -6,14 +6,16 @@ IN ?= crates/drill/stdin
 # The seed and the number of random runs of `make orders`.
 SEED ?= $(shell date +%s)
 RUNS ?= 1000
+# Where the prover leaves the built drill. The tests and the tools run that file.
+BUILT = crates/drill/out/drill
 
 ORDERS = --quiet --release --offline --manifest-path tests/orders/Cargo.toml --target-dir target/cargo
 
 help:
 	@echo 'make drill [IN=FILE]                 proves and builds the drill, runs it on case L or on FILE'
 	@echo '                                     (FILE.txt: a text, any other: records; see tools/records --help)'
-	@echo 'make test                            the gate: proves everything from nothing, tries every wrong version,'
-	@echo '                                     runs all tests; about 12 minutes; ends with N passed, M failed'
+	@echo 'make test                            the gate: proves everything, tries every wrong version, runs all tests;'
+	@echo '                                     ends with N passed, M failed'
 	@echo 'make orders [RUNS=1000] [SEED=...]   random days, against a second ledger written from the rules alone'
 	@echo 'make bench                           steps a second, beside that second ledger'
 	@echo 'make help                            this list'
@@ -22,18 +24,17 @@ help:
 	@echo 'tools/records --read FILE            captured records, as text'
 	@echo 'tools/picture FILE.txt > FILE.svg    a picture of an incident'
 
-# The prover does not link again what it has proved, so a drill that was taken away is proved anew.
-target/bin/drill: FORCE
-	@test -x $@ || rm -f target/stamp/drill
-	@tools/progress drill drill -- rt check drill
+# Only `rt run` builds, and it runs what it has built: here on no input. It sees itself whether anything has changed since.
+$(BUILT): FORCE
+	@tools/progress drill drill -- sh -c 'cd crates/drill && exec rt run </dev/null'
 
 FORCE:
 
-drill: in-is-there target/bin/drill
+drill: in-is-there $(BUILT)
 ifeq ($(suffix $(IN)),.txt)
 	@tools/records --run '$(IN)'
 else
-	@target/bin/drill < '$(IN)' | tee target/drill.out
+	@$(BUILT) < '$(IN)' | tee target/drill.out
 	@case "$$(tail -n 1 target/drill.out)" in \
 	  END*) echo 'drill: $(IN) was read to its end' >&2 ;; \
 	  STOP*) echo 'drill: stopped: the record at that byte is unknown, cut short, or names no ledger of the group' >&2; exit 1 ;; \
@@ -49,11 +50,11 @@ in-is-there:
 test:
 	@tools/progress test all -- bash .ci/run 2>&1
 
-orders: target/bin/drill
+orders: $(BUILT)
 	@echo 'orders: building the second ledger' >&2
 	@cargo run $(ORDERS) -- --seed $(SEED) --runs $(RUNS)
 
-bench: target/bin/drill
+bench: $(BUILT)
 	@echo 'bench: building the second ledger' >&2
 	@cargo build $(ORDERS)
 	@target/cargo/release/bench

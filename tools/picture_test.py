@@ -14,7 +14,7 @@ ROOT = os.path.dirname(TOOLS)
 SVG = "{http://www.w3.org/2000/svg}"
 
 
-def run(given, *arguments, drill="target/bin/drill"):
+def run(given, *arguments, drill=replay.BUILT):
     """The output, the complaint and the exit status. A test that meets no drill is to fail, and not to prove one."""
     done = subprocess.run([sys.executable, os.path.join(TOOLS, "picture"), *arguments], input=given.encode(),
                           capture_output=True, env=dict(os.environ, DRILL=drill))
@@ -36,7 +36,7 @@ def frames(svg, manner):
 
 
 def events(*lines):
-    os.environ["DRILL"] = "target/bin/drill"
+    os.environ["DRILL"] = replay.BUILT
     return story.events(replay.outcomes(text.lines("a test", "\n".join(lines))))
 
 

@@ -11,7 +11,7 @@ from parts import replay, text
 TOOLS = os.path.dirname(os.path.abspath(__file__))
 ROOT = os.path.dirname(TOOLS)
 # A test that meets no drill is to fail, and not to prove one.
-os.environ["DRILL"] = "target/bin/drill"
+os.environ["DRILL"] = replay.BUILT
 
 
 def read(*path):

@@ -7,6 +7,8 @@ import sys
 import tempfile
 import unittest
 
+from parts import replay
+
 TOOLS = os.path.dirname(os.path.abspath(__file__))
 ROOT = os.path.dirname(TOOLS)
 RECORDS = os.environ.get("RECORDS", os.path.join(TOOLS, "records"))
@@ -42,7 +44,7 @@ def run(given, *arguments, drill=None):
     """The output, the complaint and the exit status."""
     given = given if isinstance(given, bytes) else given.encode()
     # A test that meets no drill is to fail, and not to prove one.
-    around = dict(os.environ, DRILL=drill or "target/bin/drill")
+    around = dict(os.environ, DRILL=drill or replay.BUILT)
     done = subprocess.run([sys.executable, RECORDS, *arguments], input=given, capture_output=True, env=around)
     return done.stdout, done.stderr.decode(), done.returncode
 

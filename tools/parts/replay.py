@@ -11,6 +11,9 @@ from parts.text import counted
 TOOLS = os.path.dirname(os.path.dirname(os.path.abspath(__file__)))
 ROOT = os.path.dirname(TOOLS)
 
+# The built drill, where the prover leaves it.
+BUILT = "crates/drill/out/drill"
+
 # The answers that a desk may meet, in a few words each. README.md says what to do about each.
 ANSWERS = {
     0: "taken",
@@ -38,14 +41,14 @@ class NoDrill(Exception):
 
 def drill_path():
     """The program that DRILL names, taken from the root of the repository, or the built drill."""
-    return os.path.join(ROOT, os.environ.get("DRILL", "target/bin/drill"))
+    return os.path.join(ROOT, os.environ.get("DRILL", BUILT))
 
 
 def build():
     """Builds the drill; what is said of it goes to standard error, since the output is the caller's."""
-    print("target/bin/drill is missing; it is proved and built first, which takes some minutes.", file=sys.stderr)
+    print(f"{BUILT} is missing; it is proved and built first, which takes some minutes.", file=sys.stderr)
     sys.stderr.flush()
-    if subprocess.run(["make", "-s", "-C", ROOT, "target/bin/drill"], stdout=sys.stderr).returncode:
+    if subprocess.run(["make", "-s", "-C", ROOT, BUILT], stdout=sys.stderr).returncode:
         raise NoDrill("the drill could not be built")
 
 

@@ -33,12 +33,12 @@ pub fn examples() -> Vec<(String, Vec<u8>, String)> {
 
 /// The built drill.
 pub fn drill() -> Command {
-    Command::new(home().join("../../target/bin/drill"))
+    Command::new(home().join("../../crates/drill/out/drill"))
 }
 
 /// Starts the drill with pipes.
 pub fn start() -> Child {
-    drill().stdin(Stdio::piped()).stdout(Stdio::piped()).stderr(Stdio::piped()).spawn().expect("the drill is built: rt check drill")
+    drill().stdin(Stdio::piped()).stdout(Stdio::piped()).stderr(Stdio::piped()).spawn().expect("the drill is built: make crates/drill/out/drill")
 }
 
 /// Runs the drill on pieces of input, each written by itself, and gives what came of it.

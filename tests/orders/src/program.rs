@@ -7,6 +7,9 @@ use std::sync::mpsc;
 use std::thread;
 use std::time::Duration;
 
+/// The built drill, where the prover leaves it.
+const BUILT: &str = "crates/drill/out/drill";
+
 /// The drill program, and how long one run of it may take.
 #[derive(Clone, Debug)]
 pub struct Program {
@@ -32,10 +35,10 @@ impl Program {
         Ok(Program { path, limit })
     }
 
-    /// The drill named by DRILL, else `target/bin/drill`. Both are taken from
-    /// the root of the repository unless they are whole paths.
+    /// The drill named by DRILL, else the built one. Both are taken from the
+    /// root of the repository unless they are whole paths.
     pub fn drill() -> Result<Program, String> {
-        let name = std::env::var_os("DRILL").unwrap_or("target/bin/drill".into());
+        let name = std::env::var_os("DRILL").unwrap_or(BUILT.into());
         Program::at(root().join(name))
             .map_err(|problem| format!("{problem}: build the drill first, or name one with DRILL"))
     }

@@ -2,6 +2,7 @@ use promises::{cited, cited_anywhere, clause_rows, clauses, clauses_cited, claus
 use promises::{edits, holds, listed, missing, newest, not_public, public_functions, public_in_programs, root, uncited, unlisted};
 use std::collections::BTreeSet;
 use std::fs;
+use std::ops::Deref;
 use std::path::{Path, PathBuf};
 
 const NONE: Vec<String> = Vec::new();
@@ -10,16 +11,31 @@ fn list(name: &str) -> String {
     fs::read_to_string(root().join(name)).expect("the list is there")
 }
 
+/// A made-up repository. It stands outside this one, where the prover takes no source but a crate's, and goes when it is let go.
+struct MadeUp(PathBuf);
+
+impl Deref for MadeUp {
+    type Target = Path;
+    fn deref(&self) -> &Path {
+        &self.0
+    }
+}
+
+impl Drop for MadeUp {
+    fn drop(&mut self) {
+        let _ = fs::remove_dir_all(&self.0);
+    }
+}
+
 /// A made-up repository with these files.
-fn made_up(name: &str, files: &[(&str, &str)]) -> PathBuf {
-    let home = Path::new(env!("CARGO_TARGET_TMPDIR")).join(name);
-    let _ = fs::remove_dir_all(&home);
+fn made_up(name: &str, files: &[(&str, &str)]) -> MadeUp {
+    let home = std::env::temp_dir().join(format!("promises-{}-{name}", std::process::id()));
     for (path, text) in files {
         let file = home.join(path);
         fs::create_dir_all(file.parent().unwrap()).unwrap();
         fs::write(file, text).unwrap();
     }
-    home
+    MadeUp(home)
 }
 
 fn set(names: &[&str]) -> BTreeSet<String> {
