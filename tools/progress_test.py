@@ -97,15 +97,16 @@ class Heard(unittest.TestCase):
     def test_each_sort_of_failure_is_shown(self):
         lines = ["./proofs/read/Answers.antt:8:13: error: `returns`: the two types differ",
                  "note: src/lib.rt:12:5: it is not proved that the sum fits its type", "fn frame::read: not proved",
-                 "rt: the library frame did not build, so nothing above it was checked",
+                 "rt: the library frame did not build, so nothing above it was checked", "rt: run rt fmt in the crate's folder",
+                 "rt: counter: crates.txt lists libc or os, which reach past the handles: call std instead",
+                 "rt: no check reads /here/target/a.rt: a .rt file goes in src/",
                  "rt: must-fail frame/a.edit: BAD EDIT: an 'old:' text is in src/lib.rt 0 times, and not once",
                  "rt: must-fail frame/b.edit: NOT TRIED: its check was killed",
                  "rt: drill: what the program wrote, out/stdout, is not what its file stdout has: they differ first at byte 1, line 1",
                  "rt: drill: the program ended with status 1, and not 0; it said: ", "rt: FAILED: drill (run)",
                  "gate: 1 must-fail edits are bad"]
         self.hear("rt: must-fail frame/c.edit: refused, as it must be: note: src/lib.rt:16:5: it is not proved", *lines)
-        self.teller.end(1, "target/test.log", [])
-        self.assertEqual(self.told[1:-1], [f"    {line}" for line in lines])
+        self.assertEqual(self.teller.failures, lines)
 
     def test_a_failure_that_says_nothing_known_shows_its_last_lines(self):
         self.teller.end(2, "target/test.log", ["strange", "things"])
