@@ -104,7 +104,7 @@ class Heard(unittest.TestCase):
                  "rt: must-fail frame/b.edit: NOT TRIED: its check was killed",
                  "rt: drill: what the program wrote, out/stdout, is not what its file stdout has: they differ first at byte 1, line 1",
                  "rt: drill: the program ended with status 1, and not 0; it said: ", "rt: FAILED: drill (run)",
-                 "gate: 1 must-fail edits are bad"]
+                 "gate: must-fail edits that are bad: 1"]
         self.hear("rt: must-fail frame/c.edit: refused, as it must be: note: src/lib.rt:16:5: it is not proved", *lines)
         self.assertEqual(self.teller.failures, lines)
 
