@@ -46,7 +46,7 @@ def drill_path():
 
 def build():
     """Builds the drill; what is said of it goes to standard error, since the output is the caller's."""
-    print(f"{BUILT} is missing; it is proved and built first, which takes some minutes.", file=sys.stderr)
+    print(f"{BUILT} is missing; it is proved and built first, which may take some minutes.", file=sys.stderr)
     sys.stderr.flush()
     if subprocess.run(["make", "-s", "-C", ROOT, BUILT], stdout=sys.stderr).returncode:
         raise NoDrill("the drill could not be built")
