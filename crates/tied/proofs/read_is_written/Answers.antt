@@ -1,14 +1,10 @@
 use mathlib.Core.Path.{refl, ap, sym, ◌∙◌}
 use lib.ListN.{drop, length, take}
 use lib.Seq.{take_at}
-use Rattle.common.proofs.TestLaws.{both}
 use Rattle.frame.specs.Frames.{told}
 use Rattle.frame.proofs.FrameLaws.{wrote-buffer}
 use Rattle.frame.proofs.RoundTrip.{read-written}
 use Rattle.tied.proofs.read_is_written.Goals as goal
-
-pub returns-in-NotAFrame : goal.returns-in-NotAFrame
-returns-in-NotAFrame c = λ e l. both e refl
 
 pub returns-in-Accepted : goal.returns-in-Accepted
 returns-in-Accepted c =
