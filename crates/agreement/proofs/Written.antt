@@ -37,10 +37,14 @@ module _ (w : World) (c : Call) where
   abbrev pub taken-call : Type 0
   taken-call = Taken (w.ledgers c.to) c.frame c.outgoing c.list
 
+  -- what is on record after the call
+  recorded : (called w c).written ≡ cond (eqb new_copy.recipients 0) w.written (new_copy ∷ w.written)
+  unfolding called
+  recorded = refl
+
   -- no copy is lost
   pub copies_kept : (x : Written) → In x w.written → In x (called w c).written
-  unfolding called
-  copies_kept x i = go (eqb new_copy.recipients 0)
+  copies_kept x i = subst (In x) (sym recorded) (go (eqb new_copy.recipients 0))
     where
       go : (b : Bool) → In x (cond b w.written (new_copy ∷ w.written))
       go true = i
@@ -49,11 +53,11 @@ module _ (w : World) (c : Call) where
   -- a copy was there, or the call wrote it
   pub copies-from : (A : Type 0) (x : Written) → (In x w.written → A)
       → (taken-call → (new_copy.recipients ≡ 0 → ⊥) → x ≡ new_copy → A) → In x (called w c).written → A
-  unfolding called
-  copies-from A x old new =
+  copies-from A x old new there =
       split (eqb new_copy.recipients 0)
-      (λ t. subst (λ b. In x (cond b w.written (new_copy ∷ w.written)) → A) (sym t) old)
-      (λ t. subst (λ b. In x (cond b w.written (new_copy ∷ w.written)) → A) (sym t) (⊎_elim (new (was-taken t) (eqb-false _ _ t)) old))
+      (λ t. old (subst (In x) (recorded ∙ ap (λ b. cond b w.written (new_copy ∷ w.written)) t) there))
+      (λ t. ⊎_elim (new (was-taken t) (eqb-false _ _ t)) old
+      (subst (In x) (recorded ∙ ap (λ b. cond b w.written (new_copy ∷ w.written)) t) there))
     where
       was-taken : eqb new_copy.recipients 0 ≡ false → taken-call
       was-taken t =
@@ -64,8 +68,8 @@ module _ (w : World) (c : Call) where
 
   -- a written copy is in the list
   pub copies-new : taken-call → (new_copy.recipients ≡ 0 → ⊥) → In new_copy (called w c).written
-  unfolding called
-  copies-new t n = subst (λ b. In new_copy (cond b w.written (new_copy ∷ w.written))) (sym (ne_eqb _ _ n)) (inl refl)
+  copies-new t n =
+      subst (In new_copy) (sym (recorded ∙ ap (λ b. cond b w.written (new_copy ∷ w.written)) (ne_eqb _ _ n))) (inl refl)
 
   -- what the copy of a taken MULTICAST holds
   pub copy_is : (e : Entry) → taken-call → frame_of c ≡ desk_frame e → (new_copy.recipients ≡ 0 → ⊥) → before.own.0 ≡ c.to
