@@ -1,9 +1,9 @@
 -- The copies on record: none is lost, and a taken MULTICAST adds the PROPOSE with this ledger's own time.
 -- Assumes nothing.
 use Prim.Native.Nat.{◌+◌}
-use mathlib.Core.Path.{◌≡◌, refl, ap, sym, ◌∙◌, subst}
-use mathlib.Core.List.{◌∷◌}
-use mathlib.Core.Bool.{Bool, true, false, cond}
+use mathlib.Core.Path.{◌≡◌, refl, ap, ◌∙◌}
+use mathlib.Core.List.{List, ◌∷◌}
+use mathlib.Core.Bool.{Bool, true, false, cond, true≢false}
 use mathlib.Core.Logic.{inl, inr, ⊎_elim}
 use lib.Dec.{eqb}
 use lib.ListN.{drop, take}
@@ -23,6 +23,21 @@ use Rattle.agreement.specs.Run.{Call, Written, Entry, World, called}
 use Rattle.agreement.proofs.Calls.{answer, frame_of}
 use Rattle.agreement.proofs.Copies.{copy_of, desk_frame}
 
+-- where a copy is put in front unless b, none of the others is lost
+kept-either : (b : Bool) (x y : Written) (ws : List Written) → In x ws → In x (cond b ws (y ∷ ws))
+kept-either true x y ws i = i
+kept-either false x y ws i = inr i
+
+-- and one that is there was put there, or is one of the others
+from-either : {A : Type 0} (b : Bool) (x y : Written) (ws : List Written) → (In x ws → A) → (b ≡ false → x ≡ y → A) → In x (cond b ws (y ∷ ws)) → A
+from-either true x y ws old new = old
+from-either false x y ws old new = ⊎_elim (new refl) old
+
+-- and where it is put, it is there
+put-in : (b : Bool) (y : Written) (ws : List Written) → b ≡ false → In y (cond b ws (y ∷ ws))
+put-in true y ws t = absurd (true≢false t)
+put-in false y ws t = inl refl
+
 module _ (w : World) (c : Call) where
   abbrev before : Ledger
   before = w.ledgers c.to
@@ -37,27 +52,16 @@ module _ (w : World) (c : Call) where
   abbrev pub taken-call : Type 0
   taken-call = Taken (w.ledgers c.to) c.frame c.outgoing c.list
 
-  -- what is on record after the call
-  recorded : (called w c).written ≡ cond (eqb new_copy.recipients 0) w.written (new_copy ∷ w.written)
-  unfolding called
-  recorded = refl
-
   -- no copy is lost
   pub copies_kept : (x : Written) → In x w.written → In x (called w c).written
-  copies_kept x i = subst (In x) (sym recorded) (go (eqb new_copy.recipients 0))
-    where
-      go : (b : Bool) → In x (cond b w.written (new_copy ∷ w.written))
-      go true = i
-      go false = inr i
+  unfolding called
+  copies_kept x i = kept-either _ x _ _ i
 
   -- a copy was there, or the call wrote it
   pub copies-from : (A : Type 0) (x : Written) → (In x w.written → A)
       → (taken-call → (new_copy.recipients ≡ 0 → ⊥) → x ≡ new_copy → A) → In x (called w c).written → A
-  copies-from A x old new there =
-      split (eqb new_copy.recipients 0)
-      (λ t. old (subst (In x) (recorded ∙ ap (λ b. cond b w.written (new_copy ∷ w.written)) t) there))
-      (λ t. ⊎_elim (new (was-taken t) (eqb-false _ _ t)) old
-      (subst (In x) (recorded ∙ ap (λ b. cond b w.written (new_copy ∷ w.written)) t) there))
+  unfolding called
+  copies-from A x old new = from-either _ x _ _ old (λ t. new (was-taken t) (eqb-false _ _ t))
     where
       was-taken : eqb new_copy.recipients 0 ≡ false → taken-call
       was-taken t =
@@ -68,8 +72,8 @@ module _ (w : World) (c : Call) where
 
   -- a written copy is in the list
   pub copies-new : taken-call → (new_copy.recipients ≡ 0 → ⊥) → In new_copy (called w c).written
-  copies-new t n =
-      subst (In new_copy) (sym (recorded ∙ ap (λ b. cond b w.written (new_copy ∷ w.written)) (ne_eqb _ _ n))) (inl refl)
+  unfolding called
+  copies-new t n = put-in _ _ _ (ne_eqb _ _ n)
 
   -- what the copy of a taken MULTICAST holds
   pub copy_is : (e : Entry) → taken-call → frame_of c ≡ desk_frame e → (new_copy.recipients ≡ 0 → ⊥) → before.own.0 ≡ c.to
