@@ -78,7 +78,7 @@ module _ (l : Ledger) (f : Incoming) (is-sound : sound l ≡ true) (shape : Shap
       one : ◌≡◌ {A = ℕ} 0 1 → ⊥
       one z = omega arith
 
-  -- a PROPOSE that is taken is neither a repeat nor.payments in conflict, so its source was not heard
+  -- a PROPOSE that is taken is neither a repeat nor in conflict, so its source was not heard
   source-unheard : is_propose f ≡ true → heard_from (payment_for l f) f.source.0 ≡ false
   source-unheard k =
       split (is_held l.payments f)

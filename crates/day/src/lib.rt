@@ -12,7 +12,7 @@ use held::HELD;
 use records::Did;
 use std::num::wrapping_add_u64;
 
-#[derive(Drop)]
+#[derive(Clone, Copy)]
 pub struct Day {
     pub group: Group,
     // Where the next record begins, counted in bytes from the start of input.
@@ -24,7 +24,7 @@ pub struct Day {
 }
 
 // What a record leaves: the day after it, and how many bytes are printed of it.
-#[derive(Drop)]
+#[derive(Clone, Copy)]
 pub struct Done {
     pub day: Day,
     pub written: usize,

@@ -30,14 +30,14 @@ pub enum Frame {
 }
 
 // What reading finds: answer 0 or 3.
-#[derive(Drop)]
+#[derive(Clone, Copy)]
 pub enum ReadAnswer {
     Accepted(Frame),
     NotAFrame,
 }
 
 // What writing did: answer 0, with the number of bytes, or answer 2.
-#[derive(Drop)]
+#[derive(Clone, Copy)]
 pub enum WriteAnswer {
     Written(usize),
     TooShort,

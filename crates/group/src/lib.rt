@@ -14,13 +14,13 @@ use records::{Did, MULTICAST_RECORD, SET_UP};
 pub const LEDGERS: usize = ledgers::MOST as usize;
 
 // N, and the ledgers 1 to N at the first places; N is 0 before any set-up.
-#[derive(Drop)]
+#[derive(Clone, Copy)]
 pub struct Group {
     pub count: u8,
     pub ledgers: [Ledger; LEDGERS],
 }
 
-#[derive(Drop)]
+#[derive(Clone, Copy)]
 pub struct Turn {
     pub group: Group,
     pub did: Did,

@@ -57,7 +57,7 @@ pub fn none_free(payments: [Payment; HELD], own: LedgerNo) -> bool
     next(payments, own) == HELD
 }
 
-#[derive(Drop)]
+#[derive(Clone, Copy)]
 pub struct Posted {
     pub payments: [Payment; HELD],
     pub count: usize,

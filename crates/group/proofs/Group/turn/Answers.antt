@@ -1,4 +1,3 @@
--- how long a step record is
 use Prim.Native.Nat.{ℕ, ◌-◌, ◌≤◌}
 use mathlib.Core.List.{List}
 use mathlib.Core.Bool.{false}
