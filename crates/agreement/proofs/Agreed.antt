@@ -11,11 +11,10 @@ use Rattle.common.proofs.TestLaws.{and_both}
 use Rattle.ledgers.specs.Ledgers.{is_ledger_of, most_ledgers, without}
 use Rattle.payment.specs.Payments.{last_time}
 use Rattle.payment.specs.declared.Payment.{Payment}
-use Rattle.ledger.specs.State.{fresh, set_up}
+use Rattle.ledger.specs.State.{Told, fresh, set_up}
 use Rattle.ledger.specs.Step.{recipients_of}
-use Rattle.refusals.specs.declared.Incoming.{Incoming}
+use Rattle.refusals.specs.Refusals.{Incoming}
 use Rattle.ledger.specs.declared.Ledger.{Ledger}
-use Rattle.ledger.specs.declared.SetUp.{SetUp}
 use Rattle.soundness.proofs.Fresh.{fresh-shaped, fresh-sound}
 use Rattle.soundness.proofs.Kept.{brings, heard_clock, speaker, spoken_time}
 use Rattle.common.specs.Places.{In}
@@ -218,7 +217,7 @@ module _ (n : ℕ) (table : List Entry) (law : Lawful n table) where
 
   pub set-up-is : (k : ℕ) → 1 ≤ k → k ≤ n → (set_up n k).state ≡ fresh n k
   unfolding set_up
-  set-up-is k h₁ hₙ = ap (λ b. (cond {A = SetUp} b (record { state = fresh n k; answer = 0 })
+  set-up-is k h₁ hₙ = ap (λ b. (cond {A = Told} b (record { state = fresh n k; answer = 0 })
       (record { state = fresh 0 0; answer = 1 })).state) (lawful k h₁ hₙ)
 
   pub nothing-held : (k m : ℕ) (P : Payment → Type 0) → 1 ≤ k → k ≤ n → Holds (set_up n k).state m P → ⊥

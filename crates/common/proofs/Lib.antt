@@ -3,6 +3,7 @@
 pub mod Settled
 pub mod TestLaws
 pub mod PlaceLaws
+pub mod SearchLaws
 pub mod OrderLaws
 pub mod RisingLaws
 pub mod ByteLaws

@@ -68,13 +68,6 @@ any_place (suc n) f e =
     (or_cases (f n) (any n f) e)
 
 -- the laws of a loop that tests one place after the other
-pub every_more : (f : ℕ → Bool) (k : ℕ) → every k f ≡ true → f k ≡ true → every (k + 1) f ≡ true
-unfolding every
-every_more f k h e = ap (λ (n : ℕ). every n f) (add-one k) ∙ and_both e h
-
-pub every-fails : (n : ℕ) (f : ℕ → Bool) (k : ℕ) → k < n → f k ≡ false → every n f ≡ false
-every-fails n f k h e = split (every n f) (λ t. both (every-at n f t k h) e) (λ t. t)
-
 pub any-more : (f : ℕ → Bool) (k : ℕ) → any k f ≡ false → f k ≡ false → any (k + 1) f ≡ false
 unfolding any
 any-more f k h e = ap (λ (n : ℕ). any n f) (add-one k) ∙ simp (e, h)
@@ -143,6 +136,12 @@ first-within (suc n) f e =
     (λ u. simp (t, u) (omega arith))
     (λ u. both e (simp (t, u))))
 
+pub first-most : (n : ℕ) (f : ℕ → Bool) → first n f ≤ n
+first-most n f =
+    split (any n f)
+    (λ t. let h = first-within n f t in omega arith)
+    (λ t. let e = first-none n f t in omega arith)
+
 pub first_holds : (n : ℕ) (f : ℕ → Bool) → first n f < n → f (first n f) ≡ true
 unfolding first
 first_holds zero f h = absurd (not-suc-le-zero h)
@@ -153,8 +152,17 @@ first_holds (suc n) f h =
     (λ u. simp (t, u))
     (λ u. let e : first (suc n) f ≡ suc n = simp (t, u) in absurd (omega arith)))
 
-pub first-missing : (n : ℕ) (f : ℕ → Bool) → n ≤ first n f → (k : ℕ) → k < n → f k ≡ false
-first-missing n f h =
+pub first-before : (n : ℕ) (f : ℕ → Bool) (k : ℕ) → k < first n f → f k ≡ false
+unfolding first
+first-before zero f k h = absurd (not-suc-le-zero h)
+first-before (suc n) f k h =
     split (any n f)
-    (λ t. let l = first-within n f t in absurd (omega arith))
-    (λ t. any_none n f t)
+    (λ t. first-before n f k (simp t at h))
+    (λ t. split (f n)
+    (λ u. any_none n f t k (simp (t, u) at h))
+    (λ u. last-or-before n k (simp (t, u) at h)
+    (λ q. ap f q ∙ u)
+    (any_none n f t k)))
+
+pub first-missing : (n : ℕ) (f : ℕ → Bool) → n ≤ first n f → (k : ℕ) → k < n → f k ≡ false
+first-missing n f h k l = first-before n f k (omega arith)

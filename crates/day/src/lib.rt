@@ -7,10 +7,9 @@ ghost use Rattle.lines.specs.Lines.{wrote};
 ghost use Rattle.records.specs.Records.{record_total};
 ghost use Rattle.day.specs.Days.{begun, close, ends, outcome, read, steps_in};
 
-use group::Group;
+use group::{Group, Turn};
 use held::HELD;
 use records::Did;
-use std::num::wrapping_add_u64;
 
 #[derive(Clone, Copy)]
 pub struct Day {
@@ -19,7 +18,7 @@ pub struct Day {
     pub offset: u64,
     // [D9] How many step records there were.
     pub steps: u64,
-    // A record has ended the run.
+    // A record has ended the run. Such a day is handed back as it is, its group, offset and steps too, so this is no case of its own.
     pub over: bool,
 }
 
@@ -42,42 +41,26 @@ pub fn begin() -> Day
     }
 }
 
-// How long the record at the start of the bytes is.
+// How long the record at the start of the bytes is; 0 where none of a known kind is there: the offset then stays where it is.
 fn size(bytes: &[u8]) -> usize
     ensures { result ≡ record_total (kind_in bytes.now) }
 {
-    if bytes.len() == 0 {
-        return 0;
+    match *bytes {
+        [kind, ..] => records::total(kind).unwrap_or(0),
+        [] => 0,
     }
-    records::total(bytes[0])
 }
 
 fn steps_in(did: Did) -> u64
     ensures { result ≡ steps_in did }
 {
-    match did {
-        Did::SetUp { count } => 0,
-        Did::Step {
-            target,
-            answer,
-            postings,
-        } => 1,
-        Did::Stop => 0,
-    }
+    u64::from(matches!(did, Did::Step { .. }))
 }
 
 fn is_over(did: Did) -> bool
     ensures { result ≡ ends did }
 {
-    match did {
-        Did::SetUp { count } => false,
-        Did::Step {
-            target,
-            answer,
-            postings,
-        } => false,
-        Did::Stop => true,
-    }
+    matches!(did, Did::Stop)
 }
 
 impl Day {
@@ -91,16 +74,14 @@ impl Day {
                 written: 0,
             };
         }
-        let group = self.group;
-        let mut list = [0u32; HELD];
-        let turn = group.turn(bytes, &mut list);
-        let did = turn.did;
-        let after = turn.group;
+        let mut list = [0; HELD];
+        let Turn { group, did } = self.group.turn(bytes, &mut list);
         Done {
             day: Day {
-                group: after,
-                offset: wrapping_add_u64(self.offset, size(bytes) as u64),
-                steps: wrapping_add_u64(self.steps, steps_in(did)),
+                group,
+                // The library has no `From` from `usize` to `u64`.
+                offset: self.offset.wrapping_add(size(bytes) as u64),
+                steps: self.steps.wrapping_add(steps_in(did)),
                 over: is_over(did),
             },
             written: lines::line(did, self.offset, &list, out),

@@ -2,14 +2,13 @@
 -- Assumes nothing.
 use Prim.Native.Nat.{ℕ, zero, suc, ◌+◌, ◌*◌, ◌/◌, ◌%◌, ◌^◌, ◌<◌, ◌≤◌}
 use mathlib.Core.Path.{◌≡◌, refl, ap, ap₂, sym, ◌∙◌, subst, subst⁻¹}
-use mathlib.Core.List.{List, [], ◌∷◌, ◌++◌}
-use native.Mathlib.Nat.{pow-zero, pow-suc, mul_assoc, mul_comm, add-mul, add_assoc, mod-eq_of_lt, mod-one, pow-succ', pow-le-pow_right}
-use native.Mathlib.Numerals.{add-one}
+use mathlib.Core.List.{List, [], ◌∷◌}
+use native.Mathlib.Nat.{pow-zero, pow-suc, mul_comm, mod-eq_of_lt, mod-one, pow-succ'}
 use native.Mathlib.Omega.{arith}
-use lib.ListN.{length, get_or, take, drop, set, length-append}
-use lib.Seq.{drop-cons, drop-drop, get_or-drop, sets}
-use Rattle.frame.proofs.Stores.{set-sets}
+use lib.ListN.{length, get_or, take, drop}
+use lib.Seq.{drop-cons, drop-drop, get_or-drop}
 use lib.Arith.{mod-mul, digits_div, digits_mod, digits_lt}
+use Rattle.std.specs.Int.{w16, w32, from_be_bytes}
 use Rattle.frame.specs.Typed.{Bytes}
 use Rattle.frame.specs.Digits.{bytes_of, number_of, unpack}
 
@@ -26,9 +25,6 @@ bytes_take (suc n) (b ∷ bs) h (suc i) = bytes_take n bs (λ j. h (suc j)) i
 pub pow_pos : (w : ℕ) → 0 < 256 ^ w
 pow_pos zero = subst⁻¹ (λ (x : ℕ). 0 < x) (pow-zero 256) (omega arith)
 pow_pos (suc w) = subst⁻¹ (λ (x : ℕ). 0 < x) (pow-suc 256 w) (let h = pow_pos w in omega arith)
-
-pub pow-le : (i j : ℕ) → i ≤ j → 256 ^ i ≤ 256 ^ j
-pow-le i j h = pow-le-pow_right (omega arith) h
 
 pub length-bytes_of : (w x : ℕ) → length (bytes_of w x) ≡ w
 unfolding bytes_of
@@ -55,14 +51,6 @@ unfolding number_of
 number_of-lt [] h = pow_pos 0
 number_of-lt (b ∷ bs) h =
     rw (pow-succ' 256 (length bs)) (digits_lt (h 0) (number_of-lt bs (λ i. h (suc i))))
-
--- one more byte behind
-pub number_of-snoc : (bs : List ℕ) (b : ℕ) → number_of (bs ++ (b ∷ [])) ≡ number_of bs * 256 + b
-unfolding number_of
-number_of-snoc [] b = simp (pow-zero) (omega arith)
-number_of-snoc (a ∷ bs) b =
-    ap₂ (λ (n m : ℕ). a * 256 ^ n + m) (length-append bs (b ∷ []) ∙ add-one (length bs)) (number_of-snoc bs b)
-    ∙ simp (pow-suc, add-mul, mul_assoc, add_assoc)
 
 -- equal lengths and equal numbers: the same bytes
 pub number_of-one : (cs bs : List ℕ) → Bytes cs → Bytes bs → length cs ≡ length bs → number_of cs ≡ number_of bs → cs ≡ bs
@@ -95,6 +83,24 @@ pub number_of-byte : (bs : List ℕ) (i : ℕ) → i < length bs → number_of (
 unfolding number_of
 number_of-byte bs i h = rw (drop-cons bs i 0 h) (omega arith)
 
+-- two bytes and four, high byte first, as the library's methods count them
+pub number_of-two : (bs : List ℕ) (i : ℕ) → i + 2 ≤ length bs
+    → number_of (take 2 (drop i bs)) ≡ from_be_bytes w16 (get_or bs i 0 ∷ get_or bs (suc i) 0 ∷ [])
+unfolding number_of
+number_of-two bs i h = rw (drop-cons bs i 0 (omega arith), drop-cons bs (suc i) 0 (omega arith)) (omega arith)
+
+pub number_of-four : (bs : List ℕ) (i : ℕ) → i + 4 ≤ length bs
+    → number_of (take 4 (drop i bs))
+    ≡ from_be_bytes w32 (get_or bs i 0 ∷ get_or bs (suc i) 0 ∷ get_or bs (suc (suc i)) 0 ∷ get_or bs (suc (suc (suc i))) 0 ∷ [])
+unfolding number_of
+number_of-four bs i h =
+    rw (
+      drop-cons bs i 0 (omega arith),
+      drop-cons bs (suc i) 0 (omega arith),
+      drop-cons bs (suc (suc i)) 0 (omega arith),
+      drop-cons bs (suc (suc (suc i))) 0 (omega arith),
+    ) (omega arith)
+
 -- the first number and the others, by their places in the whole
 pub unpack-at : (w : ℕ) (ws : List ℕ) (n : ℕ) (bs : List ℕ)
     → unpack (w ∷ ws) (drop n bs) ≡ number_of (take w (drop n bs)) ∷ unpack ws (drop (n + w) bs)
@@ -104,11 +110,3 @@ unpack-at w ws n bs = ap (λ (l : List ℕ). number_of (take w (drop n bs)) ∷ 
 pub unpack-none : (bs : List ℕ) → unpack [] bs ≡ []
 unfolding unpack
 unpack-none bs = refl
-
--- one byte more in front of those that are written
-pub put-more : (l : List ℕ) (at w x rest : ℕ) → rest ≡ x / 256 ^ w
-    → set (sets l (suc at) (bytes_of w x)) at (rest % 256) ≡ sets l at (bytes_of (suc w) x)
-unfolding bytes_of
-put-more l at w x rest e =
-    set-sets l at (suc at) (rest % 256) (bytes_of w x) (omega arith)
-    ∙ ap (λ (r : ℕ). sets (set l at (r % 256)) (suc at) (bytes_of w x)) e

@@ -1,24 +1,23 @@
 -- Laws of reading and writing_of, one for each way through their definitions.
 -- Assumes nothing.
-use Prim.Native.Nat.{ℕ, suc, ◌+◌, ◌%◌, ◌<◌, ◌≤◌}
+use Prim.Native.Nat.{ℕ, suc, ◌+◌, ◌<◌, ◌≤◌}
 use mathlib.Core.Path.{◌≡◌, refl, ap, ap₂, sym, ◌∙◌}
-use native.Mathlib.Nat.{div-one, mod-eq_of_lt}
+use native.Mathlib.Nat.{div-one, mod-eq_of_lt, pow-zero}
 use native.Mathlib.Numerals.{one-add}
 use mathlib.Core.List.{List, [], ◌∷◌, ◌++◌}
-use mathlib.Core.Bool.{true, false, not}
+use mathlib.Core.Bool.{true, false, not, cond}
 use native.Mathlib.Omega.{arith}
-use lib.ListN.{length, get_or, take, drop, set, length-append}
-use lib.Seq.{sets, sets-eq, length-sets}
-use lib.Dec.{eqb}
+use lib.ListN.{length, get_or, drop, length-append}
+use lib.Dec.{eqb, ltb}
 use borrow.Author.Tests.{eq-eqb, eqb-true, ne_eqb, le-ltb, lt-ltb, not-false}
 use Rattle.common.proofs.TestLaws.{or_right, or-true, split}
 use Rattle.frame.specs.Frames.{Told, Values, body, frame_bytes, frame_values, known, not_a_frame}
-use Rattle.frame.specs.Frames.{nothing, reading, table, total, writing_of, wrote}
-use Rattle.frame.specs.declared.WriteAnswer.{WriteAnswer}
-use Rattle.frame.specs.declared.WriteAnswer.TheVariants.{Written, TooShort}
-use Rattle.frame.specs.Digits.{bytes_of, number_of, pack, sum, unpack}
-use Rattle.frame.proofs.DigitLaws.{length-bytes_of, number_of-byte, unpack-at, unpack-none}
-use Rattle.frame.proofs.Stores.{sets-append}
+use Rattle.frame.specs.Frames.{nothing, putting, reading, table, total, writing_of, wrote}
+use Rattle.std.specs.Prelude.{Result, Ok, Err}
+use Rattle.frame.specs.declared.TooShort.{TooShort}
+use Rattle.std.specs.Int.{w16, w32, from_be_bytes, to_be_bytes}
+use Rattle.frame.specs.Digits.{bytes_of, pack, sum, unpack}
+use Rattle.frame.proofs.DigitLaws.{length-bytes_of, number_of-byte, number_of-four, number_of-two, unpack-at, unpack-none}
 
 abbrev pub refused : Told
 refused = record { answer = 3; frame = nothing }
@@ -68,22 +67,38 @@ not_a_frame-else bs m p =
     (λ u. let k = eqb-true (get_or bs 0 0) 2 u in not_a_frame-length bs 2 k (λ l. p l k))
     (λ u. not_a_frame-unknown bs (simp (t, u))))
 
--- a whole frame of each kind, by the places of its numbers
-pub reading-multicast : (bs : List ℕ) → get_or bs 0 0 ≡ 1 → length bs ≡ 6
-    → reading bs ≡ record { answer = 0; frame = record { kind = 1; numbers = number_of (take 4 (drop 1 bs)) ∷ get_or bs 5 0 ∷ [] } }
-unfolding body known sum
-reading-multicast bs e l =
-    reading-whole bs 1 e refl l ∙ simp (unpack-at, unpack-none, number_of-byte bs 5 (omega arith))
+pub reading-else : (bs : List ℕ) → (length bs ≡ 6 → get_or bs 0 0 ≡ 1 → ⊥) → (length bs ≡ 9 → get_or bs 0 0 ≡ 2 → ⊥)
+    → reading bs ≡ refused
+reading-else bs m p = reading-refused bs (not_a_frame-else bs m p)
 
-pub reading-propose : (bs : List ℕ) → get_or bs 0 0 ≡ 2 → length bs ≡ 9
-    → reading bs
-    ≡ record {
-      answer = 0;
-      frame = record { kind = 2; numbers = number_of (take 4 (drop 1 bs)) ∷ get_or bs 5 0 ∷ get_or bs 6 0 ∷ number_of (take 2 (drop 7 bs)) ∷ [] };
-    }
+-- a whole frame of each kind, by its bytes and by what the library's methods make of those of its numbers
+pub reading-multicast : (bs : List ℕ) (payment : ℕ) → get_or bs 0 0 ≡ 1 → length bs ≡ 6
+    → payment ≡ from_be_bytes w32 (get_or bs 1 0 ∷ get_or bs 2 0 ∷ get_or bs 3 0 ∷ get_or bs 4 0 ∷ [])
+    → record { answer = 0; frame = record { kind = 1; numbers = payment ∷ get_or bs 5 0 ∷ [] } } ≡ reading bs
 unfolding body known sum
-reading-propose bs e l =
-    reading-whole bs 2 e refl l ∙ simp (unpack-at, unpack-none, number_of-byte bs 5 (omega arith), number_of-byte bs 6 (omega arith))
+reading-multicast bs payment e l p =
+    simp (p, reading-whole bs 1 e refl l, unpack-at, unpack-none, number_of-four bs 1 (omega arith), number_of-byte bs 5 (omega arith))
+
+pub reading-propose : (bs : List ℕ) (payment time : ℕ) → get_or bs 0 0 ≡ 2 → length bs ≡ 9
+    → payment ≡ from_be_bytes w32 (get_or bs 1 0 ∷ get_or bs 2 0 ∷ get_or bs 3 0 ∷ get_or bs 4 0 ∷ [])
+    → time ≡ from_be_bytes w16 (get_or bs 7 0 ∷ get_or bs 8 0 ∷ [])
+    → record { answer = 0; frame = record { kind = 2; numbers = payment ∷ get_or bs 5 0 ∷ get_or bs 6 0 ∷ time ∷ [] } } ≡ reading bs
+unfolding body known sum
+reading-propose bs payment time e l p t =
+    simp (
+      p,
+      t,
+      reading-whole bs 2 e refl l,
+      unpack-at,
+      unpack-none,
+      number_of-four bs 1 (omega arith),
+      number_of-two bs 7 (omega arith),
+      number_of-byte bs 5 (omega arith),
+      number_of-byte bs 6 (omega arith),
+    )
+
+-- what `read` asks for
+pub ruleset read_laws = (reading-else, reading-multicast, reading-propose)
 
 pub writing-short : (v : Values) (buf : List ℕ) → length buf < total v.kind
     → writing_of v buf ≡ record { answer = 2; written = 0; buffer = buf }
@@ -94,21 +109,6 @@ pub writing-fits : (v : Values) (buf : List ℕ) → total v.kind ≤ length buf
     → writing_of v buf ≡ record { answer = 0; written = total v.kind; buffer = frame_bytes v ++ drop (total v.kind) buf }
 unfolding writing_of
 writing-fits v buf h = simp (le-ltb _ _ h)
-
--- numbers put one behind the other
-abbrev pub puts : List ℕ → ℕ → List ℕ → List ℕ → List ℕ
-puts buf at [] vs = buf
-puts buf at (w ∷ ws) [] = buf
-puts buf at (w ∷ ws) (v ∷ vs) = puts (sets buf at (bytes_of w v)) (at + w) ws vs
-
-puts-pack : (buf : List ℕ) (at : ℕ) (ws vs : List ℕ) → puts buf at ws vs ≡ sets buf at (pack ws vs)
-unfolding pack
-puts-pack buf at [] vs = refl
-puts-pack buf at (w ∷ ws) [] = refl
-puts-pack buf at (w ∷ ws) (v ∷ vs) =
-    puts-pack (sets buf at (bytes_of w v)) (at + w) ws vs
-    ∙ ap (λ (n : ℕ). sets (sets buf at (bytes_of w v)) (at + n) (pack ws vs)) (sym (length-bytes_of w v))
-    ∙ sym (sets-append buf at (bytes_of w v) (pack ws vs))
 
 length-pack : (ws vs : List ℕ) → length vs ≡ length ws → length (pack ws vs) ≡ sum ws
 unfolding pack sum
@@ -121,74 +121,53 @@ length-pack (w ∷ ws) (v ∷ vs) e =
 pub length-frame_bytes : (v : Values) → length v.numbers ≡ length (body table v.kind) → length (frame_bytes v) ≡ total v.kind
 length-frame_bytes v l = ap suc (length-pack (body table v.kind) v.numbers l) ∙ sym (one-add (sum (body table v.kind)))
 
-byte-alone : (b : ℕ) → b < 256 → bytes_of 1 b ≡ b ∷ []
-unfolding bytes_of
-byte-alone b h = ap (λ (n : ℕ). n ∷ []) (ap (λ (n : ℕ). n % 256) (div-one b) ∙ mod-eq_of_lt h)
+-- the bytes of a frame, put at a buffer's front, are its writing
+putting-frame : (v : Values) (buf bs : List ℕ) → length v.numbers ≡ length (body table v.kind) → bs ≡ frame_bytes v
+    → putting bs buf ≡ writing_of v buf
+unfolding writing_of
+putting-frame v buf bs l e =
+    ap (λ cs. putting cs buf) e
+    ∙ ap (λ n. cond (ltb (length buf) n)
+    (record { answer = 2; written = 0; buffer = buf })
+    (record { answer = 0; written = n; buffer = frame_bytes v ++ drop n buf })) (length-frame_bytes v l)
 
--- a byte that is stored is a number put in one byte
-put_byte : (l : List ℕ) (at b : ℕ) → b < 256 → set l at b ≡ sets l at (bytes_of 1 b)
-put_byte l at b h = ap (sets l at) (sym (byte-alone b h))
+-- the bytes that write each kind of frame, by the bytes of its numbers
+abbrev pub multicast_listed : List ℕ → ℕ → List ℕ
+multicast_listed paid destinations = 1 ∷ get_or paid 0 0 ∷ get_or paid 1 0 ∷ get_or paid 2 0 ∷ get_or paid 3 0 ∷ destinations ∷ []
 
--- the frame is put by its kind and its numbers, in a buffer that is long enough
-pub writing-puts : (v : Values) (buf : List ℕ) → v.kind < 256 → length v.numbers ≡ length (body table v.kind)
-    → total v.kind ≤ length buf
-    → record {
-      answer = 0;
-      written = total v.kind;
-      buffer = puts buf 0 (1 ∷ body table v.kind)
-          (v.kind ∷ v.numbers);
-    } ≡ writing_of v buf
-unfolding pack
-writing-puts v buf small l fits =
-    let body = body table v.kind in
-    let size = length-frame_bytes v l in
-    let end : 0 + length (frame_bytes v) ≡ total v.kind = omega arith in
-    let done : puts buf 0 (1 ∷ body) (v.kind ∷ v.numbers) ≡ frame_bytes v ++ drop (total v.kind) buf =
-    puts-pack buf 0 (1 ∷ body) (v.kind ∷ v.numbers)
-    ∙ ap (λ (k : List ℕ). sets buf 0 (k ++ pack body v.numbers)) (byte-alone v.kind small)
-    ∙ sets-eq (frame_bytes v) buf 0 (omega arith)
-    ∙ ap (λ (n : ℕ). frame_bytes v ++ drop n buf) end in
-    ap (λ (b : List ℕ). record { answer = 0; written = total v.kind; buffer = b }) done ∙ sym (writing-fits v buf fits)
+abbrev pub propose_listed : List ℕ → ℕ → ℕ → List ℕ → List ℕ
+propose_listed paid destinations source timed =
+    2
+    ∷ get_or paid 0 0 ∷ get_or paid 1 0 ∷ get_or paid 2 0 ∷ get_or paid 3 0
+    ∷ destinations ∷ source
+    ∷ get_or timed 0 0 ∷ get_or timed 1 0 ∷ []
 
--- one number more, by a store or by a put, where the buffer before it is known
-then-byte : (at b : ℕ) {old buf : List ℕ} → b < 256 → old ≡ buf → set old at b ≡ sets buf at (bytes_of 1 b)
-then-byte at b {buf = buf} small e = ap (λ (l : List ℕ). set l at b) e ∙ put_byte buf at b small
-
-then-put : (at w v : ℕ) {old buf new : List ℕ} → old ≡ buf → new ≡ sets old at (bytes_of w v) → new ≡ sets buf at (bytes_of w v)
-then-put at w v e n = n ∙ ap (λ (l : List ℕ). sets l at (bytes_of w v)) e
-
--- the stores that write each kind of frame, by the places of its numbers
-pub writing-multicast : (payment destinations : ℕ) (buf : List ℕ) {paid : List ℕ} → destinations < 256 → 6 ≤ length buf
-    → paid ≡ sets (set buf 0 1) 1 (bytes_of 4 payment)
-    → record { answer = 0; written = 6; buffer = set paid 5 destinations }
+pub writing-multicast : (payment destinations : ℕ) (buf : List ℕ) {paid : List ℕ} → destinations < 256
+    → paid ≡ to_be_bytes w32 payment
+    → putting (multicast_listed paid destinations) buf
     ≡ writing_of (record { kind = 1; numbers = payment ∷ destinations ∷ [] }) buf
-unfolding body sum
-writing-multicast payment destinations buf small fits paid =
-    ap (λ (l : List ℕ). record { answer = 0; written = 6; buffer = l })
-    (then-byte 5 destinations small (then-put 1 4 payment (put_byte buf 0 1 (omega arith)) paid))
-    ∙ writing-puts (record { kind = 1; numbers = payment ∷ destinations ∷ [] }) buf (omega arith) refl fits
+unfolding body pack bytes_of
+writing-multicast payment destinations buf {paid} small e =
+    putting-frame (record { kind = 1; numbers = payment ∷ destinations ∷ [] }) buf (multicast_listed paid destinations) refl
+    (simp (e, pow-zero, div-one, mod-eq_of_lt small))
 
 pub writing-propose : (payment destinations source time : ℕ) (buf : List ℕ) {paid timed : List ℕ} → destinations < 256
-    → source < 256 → 9 ≤ length buf → paid ≡ sets (set buf 0 2) 1 (bytes_of 4 payment)
-    → timed ≡ sets (set (set paid 5 destinations) 6 source) 7 (bytes_of 2 time)
-    → record { answer = 0; written = 9; buffer = timed }
+    → source < 256 → paid ≡ to_be_bytes w32 payment → timed ≡ to_be_bytes w16 time
+    → putting (propose_listed paid destinations source timed) buf
     ≡ writing_of (record { kind = 2; numbers = payment ∷ destinations ∷ source ∷ time ∷ [] }) buf
-unfolding body sum
-writing-propose payment destinations source time buf small low fits paid timed =
-    ap (λ (l : List ℕ). record { answer = 0; written = 9; buffer = l })
-    (then-put 7 2 time
-    (then-byte 6 source low (then-byte 5 destinations small (then-put 1 4 payment (put_byte buf 0 2 (omega arith)) paid)))
-    timed)
-    ∙ writing-puts (record { kind = 2; numbers = payment ∷ destinations ∷ source ∷ time ∷ [] }) buf (omega arith) refl fits
+unfolding body pack bytes_of
+writing-propose payment destinations source time buf {paid} {timed} small low e f =
+    putting-frame (record { kind = 2; numbers = payment ∷ destinations ∷ source ∷ time ∷ [] }) buf
+    (propose_listed paid destinations source timed) refl
+    (simp (e, f, pow-zero, div-one, mod-eq_of_lt small, mod-eq_of_lt low))
 
--- a number that is put leaves the length as it was
-pub put-length : (l : List ℕ) (at w v : ℕ) {new : List ℕ} → new ≡ sets l at (bytes_of w v) → length new ≡ length l
-put-length l at w v e = ap length e ∙ length-sets _ _ (bytes_of w v)
+-- what `write` asks for
+pub ruleset write_laws = (writing-multicast, writing-propose)
 
 -- whatever the answer, what stands in the buffer is what is told of it
-pub wrote-buffer : (r : WriteAnswer) (buffer : List ℕ) → (wrote r buffer).buffer ≡ buffer
-wrote-buffer (Written n) buffer = refl
-wrote-buffer TooShort buffer = refl
+pub wrote-buffer : (r : Result ℕ TooShort) (buffer : List ℕ) → (wrote r buffer).buffer ≡ buffer
+wrote-buffer (Ok n) buffer = refl
+wrote-buffer (Err short) buffer = refl
 
 -- what is told of a reading, by its answer
 pub told-refused : (bs : List ℕ) (o : Told) → o ≡ reading bs → o.answer ≡ 3 → not_a_frame bs ≡ true

@@ -16,7 +16,7 @@ use Rattle.frame.specs.Frames.{Values, body, frame_bytes, frame_values, kind_in,
 use Rattle.frame.specs.Frames.{reading, table, told, total, values_of, writing, writing_of}
 use Rattle.frame.specs.declared.Frame.{Frame}
 use Rattle.frame.specs.declared.Frame.TheVariants.{Multicast, Propose}
-use Rattle.frame.specs.declared.ReadAnswer.TheVariants.{Accepted}
+use Rattle.std.specs.Prelude.{Ok}
 use Rattle.frame.proofs.DigitLaws.{bytes_drop, bytes_take, bytes_of-number_of, length-bytes_of, number_of-kept}
 use Rattle.frame.proofs.FrameLaws.{length-frame_bytes, not_a_frame-exact, not_a_frame-whole, reading-refused}
 use Rattle.frame.proofs.FrameLaws.{reading-taken, reading-whole, writing-fits, writing-short}
@@ -81,11 +81,11 @@ typed-fitting (Propose p d s t) h = simp (lt-ltb _ _ h.0, lt-ltb _ _ h.1, lt-ltb
 
 -- [F4] written, then read: the values come back
 pub written_read : (frame : Frame) (buffer : List ℕ) → Typed frame → (writing frame buffer).answer ≡ 0
-    → reading (take (writing frame buffer).written (writing frame buffer).buffer) ≡ told (Accepted frame)
+    → reading (take (writing frame buffer).written (writing frame buffer).buffer) ≡ told (Ok frame)
 written_read frame buffer h w = values-again (values_of frame) buffer (typed-known frame) (typed-fitting frame h) w
 
 -- [F5] read, then written: the bytes come back
-pub read-written : (bytes buffer : List ℕ) (frame : Frame) → Bytes bytes → told (Accepted frame) ≡ reading bytes
+pub read-written : (bytes buffer : List ℕ) (frame : Frame) → Bytes bytes → told (Ok frame) ≡ reading bytes
     → length bytes ≤ length buffer
     → writing frame buffer ≡ record { answer = 0; written = length bytes; buffer = bytes ++ drop (length bytes) buffer }
 read-written bytes buffer frame h r l =

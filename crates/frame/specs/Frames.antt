@@ -1,13 +1,11 @@
 -- Frames [F1 to F7], and which bytes are none [A3]. The two round trips [F4, F5] are theorems: proofs/RoundTrip.antt.
 -- Assumes nothing.
-use Rattle.std.specs.Prelude.{ℕ, ◌+◌, List, [], ◌∷◌, ◌++◌, Bool, false, not, ◌||◌, cond, length, get_or, drop, eqb, ltb}
+use Rattle.std.specs.Prelude.{ℕ, ◌+◌, List, [], ◌∷◌, ◌++◌, Bool, false, not, ◌||◌, cond, Result, Ok, Err, length, get_or, drop, eqb, ltb}
 use Rattle.frame.specs.Digits.{pack, unpack, sum}
 use Rattle.frame.specs.declared.Frame.{Frame}
 use Rattle.frame.specs.declared.Frame.TheVariants.{Multicast, Propose}
-use Rattle.frame.specs.declared.ReadAnswer.{ReadAnswer}
-use Rattle.frame.specs.declared.ReadAnswer.TheVariants.{Accepted, NotAFrame}
-use Rattle.frame.specs.declared.WriteAnswer.{WriteAnswer}
-use Rattle.frame.specs.declared.WriteAnswer.TheVariants.{Written, TooShort}
+use Rattle.frame.specs.declared.NotAFrame.{NotAFrame}
+use Rattle.frame.specs.declared.TooShort.{TooShort}
 
 -- [F1] a row of the table: a kind, and how many bytes each number of its body takes
 pub record Row : Type 0 where
@@ -87,15 +85,22 @@ reading bytes =
     cond (not_a_frame bytes) (record { answer = 3; frame = nothing }) (record { answer = 0; frame = frame_values bytes })
 
 -- [P5] which answer and which values each case of a reading stands for
-abbrev pub told : ReadAnswer → Told
-told (Accepted frame) = record { answer = 0; frame = values_of frame }
-told NotAFrame = record { answer = 3; frame = nothing }
+abbrev pub told : Result Frame NotAFrame → Told
+told (Ok frame) = record { answer = 0; frame = values_of frame }
+told (Err none) = record { answer = 3; frame = nothing }
 
 -- what a writing leaves: the answer, how many bytes were written (ours: docs/DECISIONS.md), and the whole buffer
 pub record Wrote : Type 0 where
   pub answer : ℕ
   pub written : ℕ
   pub buffer : List ℕ
+
+-- bytes at a buffer's front; answer 2 and the buffer as it was where it is shorter
+abbrev pub putting : List ℕ → List ℕ → Wrote
+putting bytes buffer =
+    cond (ltb (length buffer) (length bytes))
+    (record { answer = 2; written = 0; buffer = buffer })
+    (record { answer = 0; written = length bytes; buffer = bytes ++ drop (length bytes) buffer })
 
 -- [F7] a buffer that the frame does not fit into is answered 2 and left as it was; else the frame is put at its front
 unfoldable pub writing_of : Values → List ℕ → Wrote
@@ -109,6 +114,6 @@ abbrev pub writing : Frame → List ℕ → Wrote
 writing frame buffer = writing_of (values_of frame) buffer
 
 -- [P5] which answer and which count each case of a writing stands for, beside the buffer as it is left
-abbrev pub wrote : WriteAnswer → List ℕ → Wrote
-wrote (Written n) buffer = record { answer = 0; written = n; buffer = buffer }
-wrote TooShort buffer = record { answer = 2; written = 0; buffer = buffer }
+abbrev pub wrote : Result ℕ TooShort → List ℕ → Wrote
+wrote (Ok n) buffer = record { answer = 0; written = n; buffer = buffer }
+wrote (Err short) buffer = record { answer = 2; written = 0; buffer = buffer }

@@ -1,21 +1,19 @@
 // Frames: the three number types that cannot be mixed up [N7, X2], and the reading and writing of frames [F1 to F7].
 #![tactic(auto)]
 
-ghost use Rattle.std.specs.Prelude.{◌≡◌, ◌+◌, ◌≤◌, length, take, drop};
-ghost use Rattle.std.proofs.lemmas.List.Edits.{sets};
-ghost use Rattle.frame.specs.Digits.{bytes_of, number_of};
-ghost use Rattle.frame.specs.Frames.{told, reading, wrote, writing};
+ghost use Rattle.std.specs.Prelude.{◌≡◌};
+ghost use Rattle.frame.specs.Frames.{told, reading, wrote, putting, writing};
 
-#[derive(Clone, Copy)]
+#[derive(Clone, Copy, PartialEq, Eq, PartialOrd, Ord)]
 pub struct LedgerNo(pub u8);
 
-#[derive(Clone, Copy)]
+#[derive(Clone, Copy, PartialEq, Eq, PartialOrd, Ord)]
 pub struct PaymentNo(pub u32);
 
-#[derive(Clone, Copy)]
+#[derive(Clone, Copy, PartialEq, Eq, PartialOrd, Ord)]
 pub struct Time(pub u16);
 
-#[derive(Clone, Copy)]
+#[derive(Clone, Copy, PartialEq, Eq)]
 pub enum Frame {
     Multicast {
         payment: PaymentNo,
@@ -29,84 +27,59 @@ pub enum Frame {
     },
 }
 
-// What reading finds: answer 0 or 3.
-#[derive(Clone, Copy)]
-pub enum ReadAnswer {
-    Accepted(Frame),
-    NotAFrame,
-}
+// Answer 3: the bytes hold no frame.
+#[derive(Clone, Copy, PartialEq, Eq)]
+pub struct NotAFrame;
 
-// What writing did: answer 0, with the number of bytes, or answer 2.
-#[derive(Clone, Copy)]
-pub enum WriteAnswer {
-    Written(usize),
-    TooShort,
-}
+// Answer 2: the buffer is shorter than the frame.
+#[derive(Clone, Copy, PartialEq, Eq)]
+pub struct TooShort;
 
+// The first byte of each kind of frame; in the code a kind is a case of `Frame`.
 pub const MULTICAST: u8 = 1;
-
-const MULTICAST_TOTAL: usize = 6;
 
 pub const PROPOSE: u8 = 2;
 
+pub const MULTICAST_TOTAL: usize = 6;
+
+// How long a PROPOSE is. No frame is longer, so a buffer of as many bytes takes any.
 pub const PROPOSE_TOTAL: usize = 9;
 
-// The number that `width` bytes from a place on are, high byte first.
-fn number(bytes: &[u8], at: usize, width: usize) -> u32
-    requires width_in_bounds { at + width ≤ length bytes.now }
-    requires width_bound { width ≤ 4 }
-    ensures { result ≡ number_of (take width (drop at bytes.now)) }
-{
-    let mut value: u32 = 0;
-    for i in 0..width {
-        value = value * 256 + bytes[at + i] as u32;
-    }
-    value
-}
-
-// Writes the low `width` bytes of a number from a place on, high byte first.
-fn put(buffer: &mut [u8], at: usize, width: usize, value: u32)
-    requires { at + width ≤ length buffer.old }
-    ensures { buffer.new ≡ sets buffer.old at (bytes_of width value) }
-{
-    let mut left = value;
-    let mut i = width;
-    while 0 < i {
-        i = i - 1;
-        buffer[at + i] = (left % 256) as u8;
-        left = left / 256;
-    }
-}
-
 // The frame that bytes hold, or the answer that they hold none. It judges no value.
-pub fn read(bytes: &[u8]) -> ReadAnswer
+#[tactic(auto, using(crate::proofs::FrameLaws::read_laws))]
+pub fn read(bytes: &[u8]) -> Result<Frame, NotAFrame>
     ensures { told result ≡ reading bytes.now }
 {
-    // The length first: a byte is read only where there is one.
-    let n = bytes.len();
-    if n == MULTICAST_TOTAL {
-        if bytes[0] == MULTICAST {
-            return ReadAnswer::Accepted(Frame::Multicast {
-                payment: PaymentNo(number(bytes, 1, 4)),
-                destinations: bytes[5],
-            });
-        }
+    match *bytes {
+        [MULTICAST, a, b, c, d, destinations] => Ok(Frame::Multicast {
+            payment: PaymentNo(u32::from_be_bytes([a, b, c, d])),
+            destinations,
+        }),
+        [PROPOSE, a, b, c, d, destinations, source, high, low] => Ok(Frame::Propose {
+            payment: PaymentNo(u32::from_be_bytes([a, b, c, d])),
+            destinations,
+            source: LedgerNo(source),
+            time: Time(u16::from_be_bytes([high, low])),
+        }),
+        _ => Err(NotAFrame),
     }
-    if n == PROPOSE_TOTAL {
-        if bytes[0] == PROPOSE {
-            return ReadAnswer::Accepted(Frame::Propose {
-                payment: PaymentNo(number(bytes, 1, 4)),
-                destinations: bytes[5],
-                source: LedgerNo(bytes[6]),
-                time: Time(number(bytes, 7, 2) as u16),
-            });
-        }
+}
+
+// Puts a frame's bytes at the buffer's front, or nothing where the buffer is shorter.
+fn put(buffer: &mut [u8], bytes: &[u8]) -> Result<usize, TooShort>
+    ensures { wrote result buffer.new ≡ putting bytes.now buffer.old }
+{
+    let total = bytes.len();
+    if buffer.len() < total {
+        return Err(TooShort);
     }
-    ReadAnswer::NotAFrame
+    buffer[..total].copy_from_slice(bytes);
+    Ok(total)
 }
 
 // Writes a frame from the buffer's first byte on, or nothing where the buffer is shorter than the frame.
-pub fn write(frame: Frame, buffer: &mut [u8]) -> WriteAnswer
+#[tactic(auto, using(crate::proofs::FrameLaws::write_laws))]
+pub fn write(frame: Frame, buffer: &mut [u8]) -> Result<usize, TooShort>
     ensures { wrote result buffer.new ≡ writing frame buffer.old }
 {
     match frame {
@@ -114,13 +87,8 @@ pub fn write(frame: Frame, buffer: &mut [u8]) -> WriteAnswer
             payment,
             destinations,
         } => {
-            if buffer.len() < MULTICAST_TOTAL {
-                return WriteAnswer::TooShort;
-            }
-            buffer[0] = MULTICAST;
-            put(buffer, 1, 4, payment.0);
-            buffer[5] = destinations;
-            WriteAnswer::Written(MULTICAST_TOTAL)
+            let [a, b, c, d] = payment.0.to_be_bytes();
+            put(buffer, &[MULTICAST, a, b, c, d, destinations])
         }
         Frame::Propose {
             payment,
@@ -128,15 +96,12 @@ pub fn write(frame: Frame, buffer: &mut [u8]) -> WriteAnswer
             source,
             time,
         } => {
-            if buffer.len() < PROPOSE_TOTAL {
-                return WriteAnswer::TooShort;
-            }
-            buffer[0] = PROPOSE;
-            put(buffer, 1, 4, payment.0);
-            buffer[5] = destinations;
-            buffer[6] = source.0;
-            put(buffer, 7, 2, time.0 as u32);
-            WriteAnswer::Written(PROPOSE_TOTAL)
+            let [a, b, c, d] = payment.0.to_be_bytes();
+            let [high, low] = time.0.to_be_bytes();
+            put(
+                buffer,
+                &[PROPOSE, a, b, c, d, destinations, source.0, high, low],
+            )
         }
     }
 }

@@ -21,11 +21,13 @@ started n = record { count = n; ledgers = listed most_ledgers (λ i. (set_up n (
 abbrev pub no_group : Group
 no_group = record { count = 0; ledgers = replicate most_ledgers (fresh 0 0) }
 
--- ledger `target` of a group (no ledger stands beyond the places; no target goes there)
+-- what stands beyond the last place
+abbrev pub no_ledger : Ledger
+no_ledger = record { group = 0; own = record { 0 = 0 }; clock = record { 0 = 0 }; count = 0; payments = [] }
+
+-- ledger `target` of a group (no target goes beyond the places)
 abbrev pub ledger_of : Group → ℕ → Ledger
-ledger_of g target =
-    get_or g.ledgers (target - 1)
-    (record { group = 0; own = record { 0 = 0 }; clock = record { 0 = 0 }; count = 0; payments = [] })
+ledger_of g target = get_or g.ledgers (target - 1) no_ledger
 
 -- what a record leaves: the group after it, what was done, and the whole posting list
 pub record Outcome : Type 0 where

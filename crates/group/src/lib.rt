@@ -1,19 +1,18 @@
 // The drill's ledgers, and what a record does to them [D2 to D5, D8].
 #![tactic(auto)]
 
-ghost use Rattle.std.specs.Prelude.{◌≡◌, ◌∷◌, ◌+◌, ◌≤◌, drop, length, take, true};
+ghost use Rattle.std.specs.Prelude.{◌≡◌, ◌∷◌, ◌+◌, ◌-◌, ◌≤◌, drop, length, take, true};
 ghost use Rattle.ledgers.specs.Ledgers.{is_ledger_of};
-ghost use Rattle.records.specs.Records.{frame_kind};
 ghost use Rattle.group.specs.Groups.{no_group, outcome, started, stepped, turn};
 
-use frame::{LedgerNo, MULTICAST, PROPOSE, PROPOSE_TOTAL};
+use frame::{LedgerNo, MULTICAST, MULTICAST_TOTAL, PROPOSE, PROPOSE_TOTAL};
 use ledger::Ledger;
-use records::{Did, MULTICAST_RECORD, SET_UP};
+use records::{Did, Kind};
 
-// The most ledgers of a group.
+// The most ledgers of a group. A constant cannot call `From`.
 pub const LEDGERS: usize = ledgers::MOST as usize;
 
-// N, and the ledgers 1 to N at the first places; N is 0 before any set-up.
+// N, and the ledgers 1 to N at the first places; N is 0 before any set-up, so that no target is in the group then [D8].
 #[derive(Clone, Copy)]
 pub struct Group {
     pub count: u8,
@@ -41,37 +40,22 @@ fn start(count: u8) -> Group
     ensures { result ≡ started count }
 {
     let mut ledgers = [ledger::nothing(); LEDGERS];
-    for i in 0..LEDGERS {
-        let own = LedgerNo(i as u8 + 1);
-        let done = ledger::nothing().set_up(count, own);
-        let state = done.state;
-        ledgers[i] = state;
+    // A place is a small number: the cast loses nothing, and `TryFrom` would add a branch that is never taken.
+    for (i, ledger) in ledgers.iter_mut().enumerate() {
+        *ledger = ledger.set_up(count, LedgerNo(i as u8 + 1)).state;
     }
-    Group {
-        count: count,
-        ledgers: ledgers,
-    }
-}
-
-// The kind of the frame in a step record.
-fn frame_kind(kind: u8) -> u8
-    ensures { result ≡ frame_kind kind }
-{
-    if kind == MULTICAST_RECORD {
-        return MULTICAST;
-    }
-    PROPOSE
+    Group { count, ledgers }
 }
 
 // The frame in a step record: its kind, and the body bytes behind the target.
-fn frame_in(kind: u8, body: usize, bytes: &[u8]) -> [u8; PROPOSE_TOTAL]
-    requires { (body ≤ 8) × (body + 2 ≤ length bytes.now) }
-    ensures { take (body + 1) result ≡ kind ∷ take body (drop 2 bytes.now) }
+fn frame_in<const TOTAL: usize>(kind: u8, bytes: &[u8]) -> [u8; TOTAL]
+    requires { (1 ≤ TOTAL) × (TOTAL + 1 ≤ length bytes.now) }
+    ensures { result ≡ kind ∷ take (TOTAL - 1) (drop 2 bytes.now) }
 {
-    let mut frame = [kind; PROPOSE_TOTAL];
-    for i in 0..body {
-        frame[i + 1] = bytes[i + 2];
-    }
+    let mut frame = [kind; TOTAL];
+    // A part can be lent of a slice, and not of an array whose length is a parameter.
+    let parts = &mut frame[..];
+    parts[1..].copy_from_slice(&bytes[2..TOTAL + 1]);
     frame
 }
 
@@ -81,17 +65,15 @@ impl Group {
         requires { is_ledger_of self.count target ≡ true }
         ensures { outcome result postings.new ≡ stepped self target frame.now postings.old }
     {
-        let at = (target - 1) as usize;
-        let mut outgoing = [0u8; PROPOSE_TOTAL];
-        let ledger = self.ledgers[at];
-        let done = ledger.step(frame, &mut outgoing, postings);
-        let state = done.state;
-        self.ledgers[at] = state;
+        let at = usize::from(target - 1);
+        let mut outgoing = [0; PROPOSE_TOTAL];
+        let done = self.ledgers[at].step(frame, &mut outgoing, postings);
+        self.ledgers[at] = done.state;
         Turn {
             group: self,
             did: Did::Step {
-                target: target,
-                answer: done.answer,
+                target,
+                answer: refusals::number(done.answer),
                 postings: done.postings,
             },
         }
@@ -109,14 +91,23 @@ impl Group {
         }
         let kind = bytes[0];
         let second = bytes[1];
-        if kind == SET_UP {
-            return Turn {
+        match Kind::of(kind) {
+            Some(Kind::SetUp) => Turn {
                 group: start(second),
                 did: Did::SetUp { count: second },
-            };
+            },
+            Some(Kind::Multicast) => self.step(
+                second,
+                &frame_in::<MULTICAST_TOTAL>(MULTICAST, bytes),
+                postings,
+            ),
+            Some(Kind::Propose) => self.step(
+                second,
+                &frame_in::<PROPOSE_TOTAL>(PROPOSE, bytes),
+                postings,
+            ),
+            // It would have ended the run.
+            None => unreachable!(),
         }
-        let size = records::total(kind) - 1;
-        let frame = frame_in(frame_kind(kind), size - 1, bytes);
-        self.step(second, &frame[..size], postings)
     }
 }

@@ -1,6 +1,6 @@
 -- The payments that a ledger holds, each at its place [K2, K3].
 -- Assumes nothing.
-use Rattle.std.specs.Prelude.{ℕ, List, [], Bool, not, ◌&&◌, get_or, eqb, ltb}
+use Rattle.std.specs.Prelude.{ℕ, Option, Some, None, List, [], Bool, cond, not, ◌&&◌, get_or, eqb, ltb}
 use Rattle.common.specs.Places.{any, first}
 use Rattle.payment.specs.Payments.{keeps}
 use Rattle.payment.specs.declared.Payment.{Payment}
@@ -28,6 +28,10 @@ place_of payments number = first limit (is_number payments number)
 -- [A10] a payment of this number, which is not 0, is held
 abbrev pub holds : List Payment → ℕ → Bool
 holds payments number = ltb (place_of payments number) limit
+
+-- its place, where it is held
+abbrev pub found_at : List Payment → ℕ → Option ℕ
+found_at payments number = cond (holds payments number) (Some (place_of payments number)) None
 
 -- [A8] the payment at a place has another number, and ledger k's time t is kept for it, proposed or in its stamp
 abbrev pub is_for_another : List Payment → ℕ → ℕ → ℕ → ℕ → Bool

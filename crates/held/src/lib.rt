@@ -2,7 +2,7 @@
 #![tactic(auto)]
 
 ghost use Rattle.std.specs.Prelude.{◌≡◌};
-ghost use Rattle.held.specs.Held.{held_for_another, place_of};
+ghost use Rattle.held.specs.Held.{found_at, held_for_another};
 
 use frame::{LedgerNo, PaymentNo, Time};
 use payment::Payment;
@@ -10,17 +10,11 @@ use payment::Payment;
 // [K2] How many payments a ledger holds at most: the one place that says so.
 pub const HELD: usize = 32;
 
-// The place of the payment of a number; HELD where it is not held.
-pub fn find(payments: [Payment; HELD], number: PaymentNo) -> usize
-    ensures { result ≡ place_of payments number.0 }
+// The place of the payment of a number, where it is held.
+pub fn find(payments: [Payment; HELD], number: PaymentNo) -> Option<usize>
+    ensures { result ≡ found_at payments number.0 }
 {
-    for i in 0..HELD {
-        let p = payments[i];
-        if p.number.0 == number.0 {
-            return i;
-        }
-    }
-    HELD
+    payments.iter().position(|p| p.number == number)
 }
 
 // Whether a ledger's time is held for another payment than that of a number. It looks at proposals alone: a stamp is one of them.
@@ -32,11 +26,7 @@ pub fn held_for_another(
 ) -> bool
     ensures { result ≡ held_for_another payments number.0 ledger.0 time.0 }
 {
-    for i in 0..HELD {
-        let p = payments[i];
-        if (p.number.0 != number.0) & p.has_proposal(ledger, time) {
-            return true;
-        }
-    }
-    false
+    payments
+        .iter()
+        .any(|p| p.number != number && p.has_proposal(ledger, time))
 }

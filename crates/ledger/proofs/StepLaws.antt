@@ -1,14 +1,18 @@
 -- Laws of rules 1 to 4, one for each way through the definitions.
 -- Assumes nothing.
 use Prim.Native.Nat.{ℕ, max}
-use mathlib.Core.Path.{◌≡◌, ap}
-use mathlib.Core.Bool.{cond}
+use mathlib.Core.Path.{◌≡◌, refl, ap, sym, subst, ◌∙◌}
+use mathlib.Core.Bool.{Bool, true, false, cond}
 use lib.ListN.{set}
 use borrow.Author.Tests.{eq-eqb, ne_eqb}
+use Rattle.std.specs.Prelude.{◌+◌, ◌<◌, Some, None, unwrap_or}
+use Rattle.std.specs.Option.{is_some}
 use Rattle.payment.specs.Payments.{in_phase, stamp_of, stamped}
-use Rattle.held.specs.Held.{at}
-use Rattle.ledger.specs.Step.{multicast_rule, propose_rule, after_hearing, stamp_rule}
-use Rattle.refusals.specs.declared.Incoming.{Incoming}
+use Rattle.held.specs.Held.{at, holds, limit}
+use Rattle.ledger.specs.Step.{count_for, place_for, stamp_rule}
+use Rattle.refusals.specs.Refusals.{found, received}
+use Rattle.refusals.specs.declared.Judged.{Judged}
+use Rattle.ledger.specs.declared.rules.Accepted.{Accepted}
 use Rattle.ledger.specs.declared.Ledger.{Ledger}
 
 -- rule 3, by whether every destination is heard
@@ -29,10 +33,31 @@ module _ (l : Ledger) (i : ℕ) where
   unfolding stamp_rule
   stamp-not n = simp (ne_eqb _ _ n)
 
--- whose frame it is
-module _ (l : Ledger) (f : Incoming) where
-  pub received-propose : f.kind ≡ 2 → after_hearing l f ≡ propose_rule l f
-  received-propose e = ap (λ b. cond b (propose_rule l f) (multicast_rule l f)) (eq-eqb _ _ e)
+-- where the payment of a frame that is taken is kept, that there is room, and how many are held with it
+module _ (a : Accepted) where
+  abbrev l : Ledger
+  l = a.ledger
 
-  pub received-multicast : (f.kind ≡ 2 → ⊥) → after_hearing l f ≡ multicast_rule l f
-  received-multicast n = ap (λ b. cond b (propose_rule l f) (multicast_rule l f)) (ne_eqb _ _ n)
+  abbrev j : Judged
+  j = a.judged
+
+  pub place-taken : unwrap_or j.place l.count ≡ place_for l (received j.frame)
+  place-taken =
+      ap (λ p. unwrap_or p l.count) a.may.place
+      ∙ at-some (holds l.payments (received j.frame).payment.0) (found l.payments (received j.frame))
+    where
+      at-some : (b : Bool) (i : ℕ) → unwrap_or (cond b (Some i) None) l.count ≡ cond b i l.count
+      at-some true i = refl
+      at-some false i = refl
+
+  pub room-taken : unwrap_or j.place l.count < limit
+  room-taken = subst (λ n. n < limit) (sym place-taken) a.may.room
+
+  pub count-taken : cond (is_some j.place) l.count (l.count + 1) ≡ count_for l (received j.frame)
+  count-taken =
+      ap (λ p. cond (is_some p) l.count (l.count + 1)) a.may.place
+      ∙ at-some (holds l.payments (received j.frame).payment.0) (found l.payments (received j.frame))
+    where
+      at-some : (b : Bool) (i : ℕ) → cond (is_some (cond b (Some i) None)) l.count (l.count + 1) ≡ cond b l.count (l.count + 1)
+      at-some true i = refl
+      at-some false i = refl

@@ -1,20 +1,20 @@
 -- The step: rules 1 to 4 [R11 to R44], and what a call hands back [R2].
 -- Assumes nothing.
-use Rattle.std.specs.Prelude.{ℕ, ◌+◌, ◌<◌, ◌≤◌, max, ◌≡◌, List, Bool, cond, set, eqb}
+use Rattle.std.specs.Prelude.{ℕ, ◌+◌, ◌<◌, ◌≤◌, max, ◌≡◌, List, Option, cond, set, eqb, unwrap_or, Err}
+use Rattle.std.specs.Option.{is_some}
 use Rattle.frame.specs.Frames.{frame_values}
 use Rattle.frame.specs.declared.Time.{Time}
 use Rattle.ledgers.specs.Ledgers.{how_many}
 use Rattle.payment.specs.Payments.{all_heard, hear, in_phase, last_time, proposed, stamp_of, stamped}
 use Rattle.payment.specs.declared.Payment.{Payment}
-use Rattle.held.specs.Held.{at, limit}
+use Rattle.held.specs.Held.{at, found_at, limit}
 use Rattle.posting.specs.Posting.{written as posting}
-use Rattle.refusals.specs.Refusals.{incoming, is_held, is_propose, payment_in, place_in}
-use Rattle.refusals.specs.declared.Incoming.{Incoming}
+use Rattle.refusals.specs.Refusals.{Incoming, answer_no, incoming, is_held, is_propose, payment_in, place_in, received}
 use Rattle.refusals.specs.declared.Judged.{Judged}
+use Rattle.refusals.specs.declared.Refusal.{Refusal}
 use Rattle.sending.specs.Sending.{recipients, written}
 use Rattle.ledger.specs.Table.{answer_to}
 use Rattle.ledger.specs.declared.Ledger.{Ledger}
-use Rattle.ledger.specs.declared.PostedLedger.{PostedLedger}
 use Rattle.ledger.specs.declared.Step.{Step}
 
 -- [R11, R21] the frame's payment, held or new; its place [K3]; and how many are held with it
@@ -88,8 +88,8 @@ post_rule l list =
       list = posts.list;
     }
 
-abbrev pub left : PostedLedger → List ℕ → AfterPosting
-left r list = record { state = r.state; count = r.count; list = list }
+abbrev pub left : Ledger × ℕ → List ℕ → AfterPosting
+left r list = record { state = r.0; count = r.1; list = list }
 
 -- [R13, R22] to whom this ledger sends
 abbrev pub recipients_of : Ledger → Incoming → ℕ
@@ -114,7 +114,7 @@ abbrev pub outcome : Step → List ℕ → List ℕ → Outcome
 outcome r outgoing list =
     record {
       state = r.state;
-      answer = r.answer;
+      answer = answer_no r.answer;
       recipients = r.recipients;
       copies = r.copies;
       postings = r.postings;
@@ -123,31 +123,31 @@ outcome r outgoing list =
     }
 
 -- [T3] what a refusal hands back: the same state, nobody to send to, no copies and no postings
-abbrev pub refusing : Ledger → ℕ → Step
-refusing l answer = record { state = l; answer = answer; recipients = 0; copies = 0; postings = 0 }
+abbrev pub refusing : Ledger → Refusal → Step
+refusing l refusal = record { state = l; answer = Err refusal; recipients = 0; copies = 0; postings = 0 }
 
--- [T3] and it leaves both buffers as they were
+-- [T3] a refusal by its number, and both buffers as they were
 abbrev pub refused : Ledger → ℕ → List ℕ → List ℕ → Outcome
-refused l answer outgoing list = outcome (refusing l answer) outgoing list
+refused l answer outgoing list =
+    record { state = l; answer = answer; recipients = 0; copies = 0; postings = 0; outgoing = outgoing; list = list }
 
 -- for the code: what is known of a frame that no refusal applies to
 pub record MayTake (l : Ledger) (j : Judged) : Type 0 where
-  pub held : j.held ≡ is_held l.payments j.frame
-  pub place : j.place ≡ place_for l j.frame
-  pub payment : j.payment ≡ payment_for l j.frame
-  pub room : place_for l j.frame < limit
+  pub place : j.place ≡ found_at l.payments (received j.frame).payment.0
+  pub payment : j.payment ≡ payment_for l (received j.frame)
+  pub room : place_for l (received j.frame) < limit
   pub count : l.count ≤ limit
   pub clock : l.clock.0 ≤ last_time
 
--- for the code: the ledger with a payment kept at a place, and counted if it was not held
-abbrev pub kept_at : Ledger → ℕ → Bool → Payment → Ledger
-kept_at l place held p =
+-- for the code: the ledger with a payment kept at the place of the held one, or behind those held, and then counted
+abbrev pub kept_at : Ledger → Option ℕ → Payment → Ledger
+kept_at l place p =
     record {
       group = l.group;
       own = l.own;
       clock = l.clock;
-      count = cond held l.count (l.count + 1);
-      payments = set l.payments place p;
+      count = cond (is_some place) l.count (l.count + 1);
+      payments = set l.payments (unwrap_or place l.count) p;
     }
 
 -- [A0, R41] a frame that is taken: rules 1 to 4, posting last; [R3] a copy for each recipient

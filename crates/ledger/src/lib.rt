@@ -5,12 +5,14 @@ mod rules;
 mod sound;
 
 ghost use Rattle.std.specs.Prelude.{◌≡◌};
-ghost use Rattle.ledger.specs.State.{fresh, set_up};
+ghost use Rattle.ledger.specs.State.{fresh, set_up, told};
 ghost use Rattle.ledger.specs.Step.{outcome, refusing, step};
 
 use frame::{LedgerNo, PaymentNo, Time};
 use held::HELD;
 use payment::Payment;
+use refusals::Refusal;
+use rules::Accepted;
 
 // [K1] What a ledger keeps.
 #[derive(Clone, Copy)]
@@ -21,7 +23,7 @@ pub struct Ledger {
     pub own: LedgerNo,
     // From 0 to 60,000.
     pub clock: Time,
-    // How many payments are held: they stand at the first places.
+    // How many payments are held: they stand at the first places. A state that is handed in may have any number here [A1].
     pub count: u16,
     pub payments: [Payment; HELD],
 }
@@ -29,26 +31,19 @@ pub struct Ledger {
 #[derive(Clone, Copy)]
 pub struct SetUp {
     pub state: Ledger,
-    pub answer: u8,
-}
-
-#[derive(Clone, Copy)]
-struct PostedLedger {
-    state: Ledger,
-    count: usize,
+    pub answer: Result<(), Refusal>,
 }
 
 // [R2] What a step hands back.
 #[derive(Clone, Copy)]
 pub struct Step {
     pub state: Ledger,
-    // The number in the table: 0 taken, 1 to 11 refused or a repeat.
-    pub answer: u8,
+    pub answer: Result<(), Refusal>,
     // The ledgers that the outgoing frame goes to, as a byte.
     pub recipients: u8,
     // [R3] One for each recipient.
     pub copies: u32,
-    // How many numbers were written into the posting list.
+    // How many numbers were written into the posting list, which is the caller's.
     pub postings: usize,
 }
 
@@ -68,30 +63,30 @@ pub fn nothing() -> Ledger
 impl Ledger {
     // [U1, U2, X4] Set-up of ledger `own` of a group, whatever the state was before.
     pub fn set_up(mut self, group: u8, own: LedgerNo) -> SetUp
-        ensures { result ≡ set_up group own.0 }
+        ensures { told result ≡ set_up group own.0 }
     {
         self = nothing();
-        if ledgers::is_ledger_of(group, own) {
-            self.group = group;
-            self.own = own;
+        if !ledgers::is_ledger_of(group, own) {
             return SetUp {
                 state: self,
-                answer: 0,
+                answer: Err(Refusal::Unsound),
             };
         }
+        self.group = group;
+        self.own = own;
         SetUp {
             state: self,
-            answer: 1,
+            answer: Ok(()),
         }
     }
 
     // [T3] A refusal: the same state, nobody to send to, nothing posted.
-    fn refuse(mut self, answer: u8) -> Step
-        ensures { result ≡ refusing self answer }
+    fn refuse(self, refusal: Refusal) -> Step
+        ensures { result ≡ refusing self refusal }
     {
         Step {
             state: self,
-            answer: answer,
+            answer: Err(refusal),
             recipients: 0,
             copies: 0,
             postings: 0,
@@ -103,18 +98,25 @@ impl Ledger {
         ensures { outcome result outgoing.new postings.new ≡ step self frame.now outgoing.old postings.old }
     {
         if !self.is_sound() {
-            return self.refuse(1);
+            return self.refuse(Refusal::Unsound);
         }
         if (outgoing.len() < frame::PROPOSE_TOTAL) | (postings.len() < HELD) {
-            return self.refuse(2);
+            return self.refuse(Refusal::TooShort);
         }
-        let payments = self.payments;
-        let judged = refusals::judge(
-            self.group, self.own, self.clock, self.count, payments, frame,
-        );
-        if judged.answer != 0 {
-            return self.refuse(judged.answer);
+        match refusals::judge(
+            self.group,
+            self.own,
+            self.clock,
+            self.count,
+            self.payments,
+            frame,
+        ) {
+            Ok(judged) => Accepted {
+                ledger: self,
+                judged,
+            }
+            .take(outgoing, postings),
+            Err(refused) => self.refuse(refused.refusal),
         }
-        self.take(judged, outgoing, postings)
     }
 }

@@ -9,10 +9,15 @@ impl Ledger {
     pub(crate) fn is_sound(self) -> bool
         ensures { result ≡ sound self }
     {
-        let payments = self.payments;
         let in_range = ledgers::is_ledger_of(self.group, self.own)
-            & ((self.clock.0 <= payment::LAST_TIME) & (self.count as usize <= HELD));
-        let right = checked::held_right(payments, self.count, self.group, self.own, self.clock);
-        in_range & (right & posting::none_free(payments, self.own))
+            & ((self.clock.0 <= payment::LAST_TIME) & (usize::from(self.count) <= HELD));
+        let right = checked::held_right(
+            self.payments,
+            self.count,
+            self.group,
+            self.own,
+            self.clock,
+        );
+        in_range & (right & posting::none_free(self.payments, self.own))
     }
 }

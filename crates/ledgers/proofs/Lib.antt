@@ -2,4 +2,4 @@
 -- Assumes nothing.
 pub mod LedgerLaws
 pub mod OtherLaws
-pub mod UnlawfulLaws
+pub mod AllLedgers

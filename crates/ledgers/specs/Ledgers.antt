@@ -1,6 +1,6 @@
 -- Which ledgers there are [N1], and the bytes that name some of them [N6].
 -- Assumes nothing.
-use Rattle.std.specs.Prelude.{ℕ, zero, suc, ◌^◌, Bool, false, not, ◌&&◌, ◌||◌, eqb, leb}
+use Rattle.std.specs.Prelude.{ℕ, zero, suc, ◌-◌, ◌^◌, Option, Some, None, Bool, false, cond, not, ◌&&◌, ◌||◌, eqb, leb}
 use Rattle.common.specs.Bits.{bit, bits, with_bit, without_bit}
 
 abbrev pub most_ledgers : ℕ
@@ -13,6 +13,10 @@ is_group n = leb 1 n && leb n most_ledgers
 -- [N1] a group can have so many ledgers, and k is the number of one of them
 abbrev pub is_ledger_of : ℕ → ℕ → Bool
 is_ledger_of n k = is_group n && (leb 1 k && leb k n)
+
+-- where ledger k's bit stands in a byte [N6] and its time among eight [K4], counted from 0: ledgers 1 to 8 have a place
+abbrev pub place_of : ℕ → Option ℕ
+place_of k = cond (leb 1 k && leb k most_ledgers) (Some (k - 1)) None
 
 -- [N6] ledger k is among the ledgers of a byte
 unfoldable pub has : ℕ → ℕ → Bool

@@ -1,8 +1,8 @@
 // Ledgers: the numbers of a group [N1], and the bytes that name some of its ledgers [N6].
 #![tactic(auto)]
 
-ghost use Rattle.std.specs.Prelude.{◌≡◌};
-ghost use Rattle.ledgers.specs.Ledgers.{has, how_many, is_group, is_ledger_of, unlawful, without};
+ghost use Rattle.std.specs.Prelude.{◌≡◌, ◌^◌, leb};
+ghost use Rattle.ledgers.specs.Ledgers.{has, how_many, is_group, is_ledger_of, place_of, unlawful, without};
 
 use frame::LedgerNo;
 
@@ -13,63 +13,64 @@ pub const MOST: u8 = 8;
 pub fn is_group(group: u8) -> bool
     ensures { result ≡ is_group group }
 {
-    (1 <= group) & (group <= MOST)
+    (1..=MOST).contains(&group)
 }
 
 // Whether a number is that of a ledger of the group.
 pub fn is_ledger_of(group: u8, ledger: LedgerNo) -> bool
     ensures { result ≡ is_ledger_of group ledger.0 }
 {
-    is_group(group) & ((1 <= ledger.0) & (ledger.0 <= group))
+    is_group(group) && (1..=group).contains(&ledger.0)
+}
+
+// The place of a ledger's bit in a byte, and of its time among eight: ledgers 1 to 8 have one.
+pub fn place_of(ledger: LedgerNo) -> Option<u8>
+    ensures { result ≡ place_of ledger.0 }
+{
+    match ledger.0 {
+        k @ 1..=MOST => Some(k - 1),
+        _ => None,
+    }
 }
 
 // Whether a ledger is among the ledgers of a byte.
 pub fn among(ledgers: u8, ledger: LedgerNo) -> bool
     ensures { result ≡ has ledgers ledger.0 }
 {
-    let k = ledger.0;
-    if k == 0 {
-        return false;
+    match place_of(ledger) {
+        Some(i) => (ledgers >> i) % 2 == 1,
+        None => false,
     }
-    if MOST < k {
-        return false;
-    }
-    (ledgers >> (k - 1)) % 2 == 1
 }
 
 // The other ledgers of a byte.
 pub fn others(ledgers: u8, ledger: LedgerNo) -> u8
     ensures { result ≡ without ledgers ledger.0 }
 {
-    let k = ledger.0;
-    if k == 0 {
-        return ledgers;
+    match place_of(ledger) {
+        Some(i) => ledgers & !(1 << i),
+        None => ledgers,
     }
-    if MOST < k {
-        return ledgers;
-    }
-    ledgers & !(1 << (k - 1))
 }
 
 // [R3, X1] How many ledgers there are in a byte.
 pub fn how_many(ledgers: u8) -> u32
     ensures { result ≡ how_many ledgers }
 {
-    u8::count_ones(ledgers)
+    ledgers.count_ones()
+}
+
+// Whether a byte names a ledger beyond the group. Only a group of fewer than eight leaves a bit for one.
+fn is_beyond(group: u8, destinations: u8) -> bool
+    ensures { result ≡ leb (2 ^ group) destinations }
+{
+    group < MOST && destinations >> group != 0
 }
 
 // [A5] Whether destinations name nobody, name one beyond the group, or leave this ledger out.
+#[tactic(auto, unfolding(crate::specs::Ledgers::unlawful))]
 pub fn is_unlawful(group: u8, own: LedgerNo, destinations: u8) -> bool
     ensures { result ≡ unlawful group own.0 destinations }
 {
-    if destinations == 0 {
-        return true;
-    }
-    if among(destinations, own) {
-        if group < MOST {
-            return (destinations >> group) != 0;
-        }
-        return false;
-    }
-    true
+    destinations == 0 || is_beyond(group, destinations) || !among(destinations, own)
 }

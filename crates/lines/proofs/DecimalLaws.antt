@@ -3,12 +3,13 @@
 use Prim.Native.Nat.{ℕ, zero, suc, ◌/◌, ◌%◌, ◌<◌, ◌≤◌, ◌^◌}
 use mathlib.Core.Path.{◌≡◌, ap, sym, ◌∙◌, subst}
 use mathlib.Core.List.{List, [], ◌∷◌, ◌++◌}
-use native.Mathlib.Nat.{pow-suc}
 use native.Mathlib.Omega.{arith}
 use borrow.Author.Tests.{le-ltb, lt-ltb, ltb-false, ltb-true}
 use lib.Dec.{ltb}
 use lib.ListN.{length, length-append}
 use mathlib.Core.Logic.{⊎_elim}
+use Rattle.std.proofs.lemmas.Fmt.{decimal_from_appends, decimal_step, length-decimal-le}
+use Rattle.std.specs.Fmt.{decimal as written}
 use Rattle.common.specs.Places.{In}
 use Rattle.common.proofs.MemberLaws.{in-append}
 use Rattle.common.proofs.TestLaws.{split}
@@ -30,24 +31,14 @@ length_digits (suc k) n =
     (λ t. simp t (omega arith))
     (λ t. simp (t, length-append) (let less = length_digits k (n / 10) in omega arith))
 
-pub tenth-less : (j rest : ℕ) → rest < 10 ^ suc j → rest / 10 < 10 ^ j
-tenth-less j rest h = let e = pow-suc 10 j in omega arith
-
--- a number with places enough has the same digits with one place more
-digits-enough : (k n : ℕ) → n < 10 ^ suc k → digits (suc (suc k)) n ≡ digits (suc k) n
-digits-enough zero n h = digits-one 1 n (omega arith) ∙ sym (digits-one 0 n (omega arith))
-digits-enough (suc k) n h =
-    split (ltb n 10)
-    (λ t. let less = ltb-true _ _ t in digits-one (suc (suc k)) n less ∙ sym (digits-one (suc k) n less))
-    (λ t. let more = ltb-false _ _ t in
-    digits_more (suc (suc k)) n more
-    ∙ ap (λ (l : List ℕ). l ++ (digit (n % 10) ∷ [])) (digits-enough k (n / 10) (tenth-less (suc k) n h))
-    ∙ sym (digits_more (suc k) n more))
+-- what the library says of a number in decimal holds of ours
+pub decimal-is : (n : ℕ) → n < 2 ^ 64 → decimal n ≡ written n
+decimal-is n h = decimal_from_appends digits (record { one = digits-one; more = digits_more }) 20 n h (length-decimal-le 20 n (omega arith) (omega arith) h)
 
 -- the digits of the tenth part, and then the last one
 pub decimal-more : (n : ℕ) → n < 2 ^ 64 → 10 ≤ n → decimal (n / 10) ++ (digit (n % 10) ∷ []) ≡ decimal n
 decimal-more n h more =
-    ap (λ (l : List ℕ). l ++ (digit (n % 10) ∷ [])) (digits-enough 18 (n / 10) (omega arith)) ∙ sym (digits_more 19 n more)
+    ap (λ (l : List ℕ). l ++ (digit (n % 10) ∷ [])) (decimal-is (n / 10) (omega arith)) ∙ sym (decimal-is n h ∙ decimal_step n more h)
 
 -- every byte is a digit, `0` to `9`
 pub digits_are : (k n b : ℕ) → In b (digits k n) → (48 ≤ b) × (b ≤ 57)

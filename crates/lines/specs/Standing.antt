@@ -1,9 +1,11 @@
--- For the code: text that stands in a buffer from a place on.
+-- For the code: what is added to a line that stands in a lent buffer.
 -- Assumes nothing.
 use Rattle.std.specs.Prelude.{ℕ, ◌+◌, ◌≡◌, List, length}
 use Rattle.std.proofs.lemmas.List.Edits.{sets}
+use Rattle.lines.specs.declared.Writer.{Writer}
 
--- the buffer `after` is the buffer `before` with the text put from a place on, and `next` is the place after it
-pub record Stands (before : List ℕ) (at : ℕ) (text after : List ℕ) (next : ℕ) : Type 0 where
-  pub placed : after ≡ sets before at text
-  pub reached : next ≡ at + length text
+-- the line `after` is the line `before` with the text behind it, in the same lent buffer
+pub record Adds (before : Writer) (text : List ℕ) (after : Writer) : Type 0 where
+  pub placed : after.out.now ≡ sets before.out.now before.length text
+  pub reached : after.length ≡ before.length + length text
+  pub lent : after.out.ghost_name ≡ before.out.ghost_name

@@ -1,83 +1,87 @@
 // The lines that the drill prints [D6 to D10].
 #![tactic(auto)]
 
-ghost use Rattle.std.specs.Prelude.{◌≡◌, [], ◌∷◌, map, ◌+◌, ◌*◌, ◌≤◌, min, length, take};
+ghost use Rattle.std.specs.Prelude.{◌≡◌, [], ◌∷◌, map, ◌+◌, ◌≤◌, length};
 ghost use Rattle.held.specs.Held.{limit};
 ghost use Rattle.lines.specs.Decimal.{decimal};
 ghost use Rattle.lines.specs.Lines.{answer, ending, line_of, posting, printed, spaced, target, wrote, writing};
-ghost use Rattle.lines.specs.Standing.{Stands};
+ghost use Rattle.lines.specs.Standing.{Adds};
 
 use held::HELD;
 use records::Did;
 
-const SPACE: u8 = 32;
-
-const LINE_END: u8 = 10;
-
-const ZERO: u8 = 48;
-
-// Puts a byte at a place, if the buffer has it, and gives the place after it.
-fn put(out: &mut [u8], at: usize, byte: u8) -> usize
-    requires { at ≤ 4096 }
-    ensures { Stands out.old at (byte ∷ []) out.new result }
-{
-    if out.len() <= at {
-        return at + 1;
-    }
-    out[at] = byte;
-    at + 1
+// A line as far as it is written: it stands at the buffer's first places. What no longer fits is only counted. How long it may be already,
+// so that the count stays a number, differs from method to method.
+#[derive(Drop)]
+struct Writer<'a> {
+    out: &'a mut [u8],
+    length: usize,
 }
 
-// Puts bytes from a place on.
-fn text(out: &mut [u8], at: usize, bytes: &[u8]) -> usize
-    requires at_bound { at ≤ 2048 }
-    requires bytes_len_bound { length bytes.now ≤ 2048 }
-    ensures { Stands out.old at bytes.now out.new result }
-{
-    let mut next = at;
-    for i in 0..bytes.len() {
-        next = put(out, next, bytes[i]);
+impl<'a> Writer<'a> {
+    // Not by `get_mut`: a proof does not learn what a write through it leaves.
+    fn put(&mut self, byte: u8)
+        requires { self.old.length ≤ 4096 }
+        ensures { Adds self.old (byte ∷ []) self.new }
+    {
+        if self.length < self.out.len() {
+            self.out[self.length] = byte;
+        }
+        self.length += 1;
     }
-    next
-}
 
-// Puts a number in decimal from a place on: what stands before the last digit, and then that digit.
-fn number(out: &mut [u8], at: usize, n: u64) -> usize
-    requires { at ≤ 2048 }
-    ensures stands { Stands out.old at (decimal n) out.new result }
-    ensures short { result ≤ at + 20 }
-{
-    if n < 10 {
-        return put(out, at, ZERO + n as u8);
+    fn text(&mut self, bytes: &[u8])
+        requires { self.old.length + length bytes.now ≤ 2048 }
+        ensures { Adds self.old bytes.now self.new }
+    {
+        for &byte in bytes {
+            self.put(byte);
+        }
     }
-    let next = number(out, at, n / 10);
-    put(out, next, ZERO + (n % 10) as u8)
-}
 
-// Puts an item from a place on: a space, a letter, and a number.
-fn item(out: &mut [u8], at: usize, letter: u8, n: u64) -> usize
-    requires { at ≤ 2000 }
-    ensures stands { Stands out.old at (32 ∷ letter ∷ decimal n) out.new result }
-    ensures short { result ≤ at + 22 }
-{
-    let after = put(out, at, SPACE);
-    let begun = put(out, after, letter);
-    number(out, begun, n)
-}
-
-// Puts an item for each of so many postings.
-fn postings(out: &mut [u8], at: usize, list: &[u32], count: usize) -> usize
-    requires at_bound { at ≤ 1000 }
-    requires count_le_limit { count ≤ limit }
-    requires count_in_bounds { count ≤ length list.now }
-    ensures stands { Stands out.old at (spaced (map posting (take count list.now))) out.new result }
-    ensures short { result ≤ at + 22 * limit }
-{
-    let mut next = at;
-    for i in 0..count {
-        next = item(out, next, b'P', list[i] as u64);
+    // A number in decimal: what stands before its last digit, and then that digit. Not by `write!`: what it promises is the text where it
+    // gives `Ok`, and nothing where it does not. A digit fits a byte, so the casts lose nothing.
+    fn number(&mut self, n: u64)
+        requires { self.old.length ≤ 2048 }
+        ensures { Adds self.old (decimal n) self.new }
+    {
+        if n < 10 {
+            self.put(b'0' + n as u8);
+        } else {
+            self.number(n / 10);
+            self.put(b'0' + (n % 10) as u8);
+        }
     }
-    next
+
+    // An item: a space, a letter, and a number.
+    fn item(&mut self, letter: u8, n: u64)
+        requires { self.old.length ≤ 2000 }
+        ensures { Adds self.old (32 ∷ letter ∷ decimal n) self.new }
+    {
+        self.put(b' ');
+        self.put(letter);
+        self.number(n);
+    }
+
+    fn postings(&mut self, list: &[u32])
+        requires start { self.old.length ≤ 1000 }
+        requires few { length list.now ≤ limit }
+        ensures { Adds self.old (spaced (map posting list.now)) self.new }
+    {
+        for &number in list {
+            self.item(b'P', u64::from(number));
+        }
+    }
+
+    // Ends the line, and gives its length.
+    fn close(&mut self) -> usize
+        requires { self.old.length ≤ 4000 }
+        ensures adds { Adds self.old (10 ∷ []) self.new }
+        ensures length { result ≡ self.new.length }
+    {
+        self.put(b'\n');
+        self.length
+    }
 }
 
 // A line of a word and a number.
@@ -85,27 +89,24 @@ fn named(out: &mut [u8], word: &[u8], n: u64) -> usize
     requires { length word.now ≤ 8 }
     ensures { wrote result out.new ≡ writing (line_of word.now (decimal n ∷ [])) out.old }
 {
-    let after = text(out, 0, word);
-    let begun = put(out, after, SPACE);
-    let end = number(out, begun, n);
-    put(out, end, LINE_END)
+    let mut line = Writer { out, length: 0 };
+    line.text(word);
+    line.put(b' ');
+    line.number(n);
+    line.close()
 }
 
 // The line of a step.
-fn step(out: &mut [u8], ledger: u8, given: u8, count: usize, list: &[u32]) -> usize
-    ensures { wrote result out.new ≡ writing (line_of (target ledger) (answer given ∷ map posting (take (min count limit) list.now))) out.old }
+fn step(out: &mut [u8], ledger: u8, given: u8, posted: &[u32]) -> usize
+    requires { length posted.now ≤ limit }
+    ensures { wrote result out.new ≡ writing (line_of (target ledger) (answer given ∷ map posting posted.now)) out.old }
 {
-    let letter = put(out, 0, b'L');
-    let stepped = number(out, letter, ledger as u64);
-    let answered = item(out, stepped, b'A', given as u64);
-    let posted = postings(out, answered, list, least(least(count, HELD), list.len()));
-    put(out, posted, LINE_END)
-}
-
-fn least(a: usize, b: usize) -> usize
-    ensures { result ≡ min a b }
-{
-    if a < b { a } else { b }
+    let mut line = Writer { out, length: 0 };
+    line.put(b'L');
+    line.number(u64::from(ledger));
+    line.item(b'A', u64::from(given));
+    line.postings(posted);
+    line.close()
 }
 
 // Writes what is printed of a record, and gives the line's length.
@@ -113,12 +114,17 @@ pub fn line(did: Did, offset: u64, list: &[u32], out: &mut [u8]) -> usize
     ensures { wrote result out.new ≡ writing (printed did offset list.now) out.old }
 {
     match did {
-        Did::SetUp { count } => named(out, b"GROUP", count as u64),
+        Did::SetUp { count } => named(out, b"GROUP", u64::from(count)),
         Did::Step {
             target,
             answer,
             postings,
-        } => step(out, target, answer, postings, list),
+        } => step(
+            out,
+            target,
+            answer,
+            &list[..postings.min(HELD).min(list.len())],
+        ),
         Did::Stop => named(out, b"STOP", offset),
     }
 }

@@ -2,20 +2,27 @@
 -- Assumes nothing.
 use Prim.Native.Nat.{ℕ, zero, suc, ◌<◌, ◌≤◌}
 use mathlib.Core.Path.{◌≡◌, refl, ap, ap₂, sym, ◌∙◌, subst}
-use mathlib.Core.List.{List}
+use mathlib.Core.List.{append-nil, map-append, List, [], ◌∷◌, ◌++◌}
 use mathlib.Core.Bool.{true, false, cond, ◌&&◌}
 use native.Mathlib.Nat.{le_of_lt, le_refl, le_trans}
 use native.Mathlib.Omega.{arith}
 use borrow.Author.Tests.{le-ltb, ltb-false, ltb-true}
+use native.Mathlib.Numerals.{add-one}
+use Rattle.std.specs.Prelude.{map, filter, ◌+◌}
+use Rattle.std.specs.List.{fold}
+use Rattle.std.proofs.lemmas.List.FromFn.{filter_of_map_range_with_len_more}
+use Rattle.std.proofs.lemmas.List.Sums.{fold_push}
+use Rattle.frame.specs.declared.LedgerNo.{LedgerNo}
 use Rattle.common.proofs.PlaceLaws.{last-or-before}
 use Rattle.common.proofs.TestLaws.{and-go, and_left, and_right, split}
 use Rattle.frame.specs.declared.Time.{Time}
+use Rattle.ledgers.proofs.AllLedgers.{ledgers_to, numbered}
 use Rattle.ledgers.specs.Ledgers.{has}
-use Rattle.payment.specs.Payments.{greatest, heard_from, proposal, stamp_of, time_in}
+use Rattle.payment.specs.Payments.{greatest, heard_from, no_stamp, proposal, stamp_of, time_in}
 use Rattle.payment.specs.Stamps.{below}
 use Rattle.payment.specs.declared.Payment.{Payment}
 use Rattle.payment.specs.declared.Stamp.{Stamp}
-use Rattle.payment.proofs.StampLaws.{below-rank, rank}
+use Rattle.payment.proofs.StampLaws.{below-rank, higher, rank}
 
 module _ (times : List Time) (heard : ℕ) where
   -- by whether the next ledger's proposal is the greatest now
@@ -91,3 +98,33 @@ greatest-same ts us heard (suc n) h =
     (λ t. ap (λ b. cond (b && below (greatest ts heard n) (proposal ts (suc n))) (proposal ts (suc n)) (greatest ts heard n)) t
     ∙ rest
     ∙ sym (ap (λ b. cond (b && below (greatest us heard n) (proposal us (suc n))) (proposal us (suc n)) (greatest us heard n)) t))
+
+-- the greatest proposal is found by going through the numbers of the ledgers
+pub greatest-listed : (times : List Time) (heard n : ℕ)
+    → greatest times heard n
+    ≡ fold higher no_stamp (map (λ l. proposal times l.0) (filter (λ l. has heard l.0) (ledgers_to n)))
+unfolding greatest
+greatest-listed times heard zero = refl
+greatest-listed times heard (suc n) =
+    let ls = filter (λ (l : LedgerNo). has heard l.0) (ledgers_to n) in
+    let next : 1 + n ≡ suc n = omega arith in
+    let more = ap (λ k. filter (λ (l : LedgerNo). has heard l.0) (ledgers_to k)) (sym (add-one n))
+    ∙ filter_of_map_range_with_len_more (λ l. has heard l.0) numbered 1 n (suc n) next in
+    let so_far = greatest-listed times heard n in
+    ap (λ best. cond (has heard (suc n) && below best (proposal times (suc n))) (proposal times (suc n)) best) so_far
+    ∙ step (fold higher no_stamp (map (λ l. proposal times l.0) ls)) ls refl
+    ∙ ap (λ ls. fold higher no_stamp (map (λ l. proposal times l.0) ls)) (sym more)
+  where
+    one : Stamp → List LedgerNo → Type 0
+    one best ls =
+        cond (has heard (suc n) && below best (proposal times (suc n))) (proposal times (suc n)) best
+        ≡ fold higher no_stamp (map (λ l. proposal times l.0) (ls ++ cond (has heard (suc n)) (numbered (suc n) ∷ []) []))
+
+    step : (best : Stamp) (ls : List LedgerNo) → fold higher no_stamp (map (λ l. proposal times l.0) ls) ≡ best → one best ls
+    step best ls e =
+        let p = λ (l : LedgerNo). proposal times l.0 in
+        split (has heard (suc n))
+        (λ t. simp t (sym (ap (fold higher no_stamp) (map-append p ls (numbered (suc n) ∷ []))
+        ∙ fold_push higher no_stamp (map p ls) (p (numbered (suc n)))
+        ∙ ap (λ b. higher b (p (numbered (suc n)))) e)))
+        (λ t. simp t (sym (ap (λ k. fold higher no_stamp (map p k)) (append-nil ls) ∙ e)))

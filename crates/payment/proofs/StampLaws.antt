@@ -1,13 +1,16 @@
 -- Laws of the order of stamps.
 -- Assumes nothing.
 use Prim.Native.Nat.{ℕ, ◌+◌, ◌*◌, ◌<◌, ◌≤◌}
-use mathlib.Core.Path.{◌≡◌, ap₂, sym, ◌∙◌}
-use mathlib.Core.Bool.{true, false}
+use mathlib.Core.Path.{◌≡◌, ap, ap₂, sym, ◌∙◌}
+use mathlib.Core.Bool.{true, false, cond}
 use native.Mathlib.Omega.{arith}
 use lib.Dec.{eqb, ltb}
 use borrow.Author.Tests.{eq-eqb, eqb-false, eqb-true, le-ltb, lt-ltb, ltb-false, ltb-true, ne_eqb}
-use Rattle.common.proofs.TestLaws.{and_left, and_right, or_cases, same, split}
+use Rattle.common.proofs.TestLaws.{and_left, and_right, or_cases, or_left, same, split}
 use mathlib.Core.Logic.{◌⊎◌, inl, inr, ⊎_elim}
+use Rattle.std.proofs.Common.{Ordering}
+use Rattle.std.proofs.lemmas.Bool.Decides.{nat_tests}
+use Rattle.std.specs.Ordering.{is_lt, nat_cmp, ord_max, ordering_then}
 use Rattle.payment.specs.Stamps.{below}
 use Rattle.payment.specs.declared.Stamp.{Stamp}
 
@@ -73,17 +76,38 @@ below-between a b c e =
         (λ t. let x = ltb-false a.ledger.0 b.ledger.0 t in
         inr (below-tie b c q ∙ lt-ltb b.ledger.0 c.ledger.0 (omega (arith, x, h))))
 
+-- two stamps of which neither is below the other are the same
+pub below-same : (a b : Stamp) → below a b ≡ false → below b a ≡ false → a ≡ b
+unfolding below
+below-same a b t u =
+    let x = ltb-false a.time.0 b.time.0 (or_left (ltb a.time.0 b.time.0) _ t) in
+    let y = ltb-false b.time.0 a.time.0 (or_left (ltb b.time.0 a.time.0) _ u) in
+    let times : a.time.0 ≡ b.time.0 = omega (arith, x, y) in
+    let p = ltb-false a.ledger.0 b.ledger.0 (sym (below-tie a b times) ∙ t) in
+    let q = ltb-false b.ledger.0 a.ledger.0 (sym (below-tie b a (sym times)) ∙ u) in
+    let ledgers : a.ledger.0 ≡ b.ledger.0 = omega (arith, p, q) in
+    ap₂ (λ t l. record { time = record { 0 = t }; ledger = record { 0 = l } }) times ledgers
+
 -- of two stamps that differ one is below the other
 pub below_or : (a b : Stamp) → (a ≡ b → ⊥) → (below a b ≡ true) ⊎ (below b a ≡ true)
-below_or a b n =
-    split (ltb a.time.0 b.time.0) (λ t. inl (below-time a b (ltb-true _ _ t)))
-    (λ t. split (ltb b.time.0 a.time.0) (λ u. inr (below-time b a (ltb-true _ _ u)))
-    (λ u. let x = ltb-false a.time.0 b.time.0 t in
-    let y = ltb-false b.time.0 a.time.0 u in
-    let times : a.time.0 ≡ b.time.0 = omega (arith, x, y) in
-    split (ltb a.ledger.0 b.ledger.0) (λ v. inl (below-tie a b times ∙ v))
-    (λ v. split (ltb b.ledger.0 a.ledger.0) (λ z. inr (below-tie b a (sym times) ∙ z))
-    (λ z. let p = ltb-false a.ledger.0 b.ledger.0 v in
-    let q = ltb-false b.ledger.0 a.ledger.0 z in
-    let ledgers : a.ledger.0 ≡ b.ledger.0 = omega (arith, p, q) in
-    absurd (n (ap₂ (λ t l. record { time = record { 0 = t }; ledger = record { 0 = l } }) times ledgers))))))
+below_or a b n = split (below a b) (λ t. inl t) (λ t. split (below b a) (λ u. inr u) (λ u. absurd (n (below-same a b t u))))
+
+-- the order that the derives give: by the times, then by the ledgers
+abbrev pub order : Stamp → Stamp → Ordering
+order a b = ordering_then (nat_cmp a.time.0 b.time.0) (nat_cmp a.ledger.0 b.ledger.0)
+
+pub below-order : (a b : Stamp) → is_lt (order a b) ≡ below a b
+unfolding below
+below-order a b = grind (arith, nat_tests)
+
+-- the higher of two stamps
+abbrev pub higher : Stamp → Stamp → Stamp
+higher a b = cond (below a b) b a
+
+-- is their `max`: where neither is below the other they are the same
+pub higher-max : (a b : Stamp) → ord_max order a b ≡ higher a b
+higher-max a b =
+    ap (λ t. cond t a b) (below-order b a)
+    ∙ split (below b a)
+    (λ t. split (below a b) (λ u. absurd (below-once a b u t)) (λ u. simp (t, u)))
+    (λ t. split (below a b) (λ u. simp (t, u)) (λ u. simp (t, u) (below-same b a t u)))

@@ -7,7 +7,7 @@ ghost use Rattle.payment.specs.Stamps.{below};
 
 use frame::{LedgerNo, PaymentNo, Time};
 
-// Phases.
+// Phases. They are numbers and no enum: any state may be handed in, also one with another number here, and the step answers it [A1].
 pub const WAITING: u8 = 0;
 
 pub const PROPOSED: u8 = 1;
@@ -19,31 +19,32 @@ pub const POSTED: u8 = 3;
 // [N3] The last time.
 pub const LAST_TIME: u16 = 60000;
 
-#[derive(Clone, Copy)]
+// The derived order is that of stamps [N5]: so the time stands first.
+#[derive(Clone, Copy, PartialEq, Eq, PartialOrd, Ord)]
 pub struct Stamp {
     pub time: Time,
     pub ledger: LedgerNo,
 }
 
 // What is kept for one payment.
-#[derive(Clone, Copy)]
+#[derive(Clone, Copy, PartialEq, Eq)]
 pub struct Payment {
     pub number: PaymentNo,
     // [N6] One bit for each ledger.
     pub destinations: u8,
     // The destinations whose time is kept, with the same bits.
     pub heard: u8,
-    // Ledger k's time stands at place k - 1; 0 where it was not heard.
+    // Ledger k's time stands at place k - 1; 0 where it was not heard, as in a place that is not in use [S4, K6].
     pub times: [Time; 8],
     pub phase: u8,
 }
 
 impl Stamp {
+    #[tactic(auto, unfolding(crate::specs::Stamps::below))]
     pub fn is_below(self, other: Stamp) -> bool
         ensures { result ≡ below self other }
     {
-        (self.time.0 < other.time.0)
-            | ((self.time.0 == other.time.0) & (self.ledger.0 < other.ledger.0))
+        self < other
     }
 }
 
@@ -51,24 +52,17 @@ impl Stamp {
 pub fn later(a: Time, b: Time) -> Time
     ensures { result ≡ record { 0 = max a.0 b.0 } }
 {
-    if a.0 < b.0 {
-        return b;
-    }
-    a
+    a.max(b)
 }
 
-// The time kept from a ledger.
+// The time kept from a ledger; 0 where there is no such ledger, as the definition says.
 pub fn time_in(times: [Time; 8], ledger: LedgerNo) -> Time
     ensures { result ≡ time_in times ledger.0 }
 {
-    let k = ledger.0;
-    if k == 0 {
-        return Time(0);
+    match ledgers::place_of(ledger) {
+        Some(i) => times[usize::from(i)],
+        None => Time(0),
     }
-    if ledgers::MOST < k {
-        return Time(0);
-    }
-    times[(k - 1) as usize]
 }
 
 // [N4] A ledger's proposal, as a stamp.
@@ -77,28 +71,25 @@ pub fn proposal(times: [Time; 8], ledger: LedgerNo) -> Stamp
 {
     Stamp {
         time: time_in(times, ledger),
-        ledger: ledger,
+        ledger,
     }
 }
+
+// Below every proposal, since no ledger is 0: what `pick` gives where none was heard, as the definition `greatest` does.
+const NO_STAMP: Stamp = Stamp {
+    time: Time(0),
+    ledger: LedgerNo(0),
+};
 
 // [R31, X3] Stamp picking: the greatest of the proposals heard.
 fn pick(times: [Time; 8], heard: u8) -> Stamp
     ensures { result ≡ greatest times heard 8 }
 {
-    let mut best = Stamp {
-        time: Time(0),
-        ledger: LedgerNo(0),
-    };
-    for k in 0..ledgers::MOST {
-        let ledger = LedgerNo(k + 1);
-        if ledgers::among(heard, ledger) {
-            let next = proposal(times, ledger);
-            if best.is_below(next) {
-                best = next;
-            }
-        }
-    }
-    best
+    (1..=ledgers::MOST)
+        .map(LedgerNo)
+        .filter(|k| ledgers::among(heard, *k))
+        .map(|k| proposal(times, k))
+        .fold(NO_STAMP, Stamp::max)
 }
 
 // A payment that is taken in: nothing heard, waiting.
@@ -106,8 +97,8 @@ pub fn new_payment(number: PaymentNo, destinations: u8) -> Payment
     ensures { result ≡ new_payment number.0 destinations }
 {
     Payment {
-        number: number,
-        destinations: destinations,
+        number,
+        destinations,
         heard: 0,
         times: [Time(0); 8],
         phase: WAITING,
@@ -118,23 +109,17 @@ impl Payment {
     pub fn stamp(self) -> Stamp
         ensures { result ≡ stamp_of self }
     {
-        let times = self.times;
-        pick(times, self.heard)
+        pick(self.times, self.heard)
     }
 
-    // The payment with a ledger's time kept.
+    // The payment with a ledger's time kept. The two come apart, here and below, as a frame has them.
     pub fn hear(mut self, ledger: LedgerNo, time: Time) -> Payment
         ensures { result ≡ hear self ledger.0 time }
     {
-        let k = ledger.0;
-        if k == 0 {
-            return self;
+        if let Some(i) = ledgers::place_of(ledger) {
+            self.heard |= 1 << i;
+            self.times[usize::from(i)] = time;
         }
-        if ledgers::MOST < k {
-            return self;
-        }
-        self.heard = self.heard | (1 << (k - 1));
-        self.times[(k - 1) as usize] = time;
         self
     }
 
@@ -142,7 +127,6 @@ impl Payment {
     pub fn has_proposal(self, ledger: LedgerNo, time: Time) -> bool
         ensures { result ≡ has_proposal self ledger.0 time.0 }
     {
-        let times = self.times;
-        ledgers::among(self.heard, ledger) & (time_in(times, ledger).0 == time.0)
+        ledgers::among(self.heard, ledger) && time_in(self.times, ledger) == time
     }
 }

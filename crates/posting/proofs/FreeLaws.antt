@@ -1,21 +1,24 @@
 -- Laws of which payments are free to post.
 -- Assumes nothing.
 use Prim.Native.Nat.{ℕ, ◌+◌, ◌<◌}
+use Rattle.std.specs.Prelude.{Option, Some, None, MatchOption, option_map}
 use mathlib.Core.Path.{◌≡◌, ap, sym, ◌∙◌}
 use mathlib.Core.List.{List}
-use mathlib.Core.Bool.{true, false, not, ◌&&◌}
+use mathlib.Core.Bool.{Bool, true, false, not, cond, ◌&&◌}
 use native.Mathlib.Numerals.{add-one}
-use borrow.Author.Tests.{eq-eqb, eqb-true, ne_eqb, not-false, not-true}
+use native.Mathlib.Omega.{arith}
+use lib.Dec.{eqb}
+use borrow.Author.Tests.{eq-eqb, eqb-false, eqb-true, ne_eqb, not-false, not-true}
 use Rattle.common.specs.Order.{least}
 use Rattle.common.proofs.OrderLaws.{least-keep, least-less, least-only, least_skip}
 use Rattle.common.proofs.PlaceLaws.{any_at, any_none, any-not}
-use Rattle.common.proofs.TestLaws.{and-false, and-go, and_left, and_right, and-stop}
+use Rattle.common.proofs.TestLaws.{and-false, and-go, and_left, and_right, and-stop, split}
 use Rattle.payment.specs.Payments.{is_proposed, is_stamped, proposal, stamp_of}
 use Rattle.payment.specs.Stamps.{below}
 use Rattle.payment.specs.declared.Payment.{Payment}
 use Rattle.payment.specs.declared.Stamp.{Stamp}
 use Rattle.held.specs.Held.{at, limit}
-use Rattle.posting.specs.Posting.{before, held_back, holds_back, is_free, none_free}
+use Rattle.posting.specs.Posting.{before, first_free, held_back, holds_back, is_free, none_free}
 
 module _ (own : ℕ) (stamp : Stamp) (p : Payment) where
   pub back-other : (p.phase ≡ 1 → ⊥) → holds_back own stamp p ≡ false
@@ -59,25 +62,50 @@ module _ (payments : List Payment) (own : ℕ) where
   free-so i s e p h =
       and-go _ (eq-eqb _ _ p) ∙ ap (λ t. not (held_back payments own t)) (sym e) ∙ ap not h
 
-  pub next-skip : (i : ℕ) → is_free payments own i ≡ false
-      → least limit (before payments) (is_free payments own) (i + 1) ≡ least limit (before payments) (is_free payments own) i
-  next-skip i e = rw add-one (least_skip (before payments) limit (is_free payments own) i e)
+  -- where the search for the next to post stands after the places below i: the first that is free, and its stamp
+  abbrev pub best_of : ℕ → Option (ℕ × Stamp)
+  best_of i =
+      let best = least limit (before payments) (is_free payments own) i in
+      cond (eqb best limit) None (Some (best, stamp_of (at payments best)))
 
-  pub next-only : (i : ℕ) → is_free payments own i ≡ true → least limit (before payments) (is_free payments own) i ≡ limit
-      → least limit (before payments) (is_free payments own) (i + 1) ≡ i
-  next-only i e n = rw add-one (least-only (before payments) limit (is_free payments own) i e n)
+  -- a place that is not free changes nothing
+  pub best-skip : (i : ℕ) → is_free payments own i ≡ false → best_of (i + 1) ≡ best_of i
+  best-skip i e =
+      ap best_of (add-one i)
+      ∙ ap (λ n. cond (eqb n limit) None (Some (n, stamp_of (at payments n))))
+      (least_skip (before payments) limit (is_free payments own) i e)
 
-  pub next-less : (i best : ℕ) → is_free payments own i ≡ true → best ≡ least limit (before payments) (is_free payments own) i
-      → (best ≡ limit → ⊥) → below (stamp_of (at payments i)) (stamp_of (at payments best)) ≡ true
-      → least limit (before payments) (is_free payments own) (i + 1) ≡ i
-  next-less i best e q n b =
-      rw add-one (least-less (before payments) limit (is_free payments own) i e (λ z. n (q ∙ z)) (rw (← q) b))
+  -- one that is free is put in the place of the best so far where there is none, or where it comes before it
+  pub best-more : (i : ℕ) → i < limit → is_free payments own i ≡ true → (best : Option (ℕ × Stamp)) → best ≡ best_of i
+      → (b : Bool) → MatchOption best (b ≡ true) (λ x. b ≡ below (stamp_of (at payments i)) x.1)
+      → best_of (i + 1) ≡ cond b (Some (i, stamp_of (at payments i))) best
+  best-more i h free best e b told =
+      ap best_of (add-one i)
+      ∙ split (eqb so_far limit)
+      (λ t. let none : best ≡ None = e ∙ ap (λ z. cond z None (Some (so_far, stamp_of (at payments so_far)))) t in
+      ap pack (least-only (before payments) limit (is_free payments own) i free (eqb-true _ _ t)) ∙ here
+      ∙ sym (ap (λ z. cond z (Some (i, stamp_of (at payments i))) best) (rw none at told)))
+      (λ t. let some : best ≡ Some (so_far, stamp_of (at payments so_far)) =
+      e ∙ ap (λ z. cond z None (Some (so_far, stamp_of (at payments so_far)))) t in
+      let first : b ≡ below (stamp_of (at payments i)) (stamp_of (at payments so_far)) = rw some at told in
+      split b
+      (λ u. ap pack (least-less (before payments) limit (is_free payments own) i free (eqb-false _ _ t) (sym first ∙ u)) ∙ here
+      ∙ sym (ap (λ z. cond z (Some (i, stamp_of (at payments i))) best) u))
+      (λ u. ap pack (least-keep (before payments) limit (is_free payments own) i free (eqb-false _ _ t) (sym first ∙ u)) ∙ sym e
+      ∙ sym (ap (λ z. cond z (Some (i, stamp_of (at payments i))) best) u)))
+    where
+      so_far : ℕ
+      so_far = least limit (before payments) (is_free payments own) i
 
-  pub next-keep : (i best : ℕ) → is_free payments own i ≡ true → best ≡ least limit (before payments) (is_free payments own) i
-      → (best ≡ limit → ⊥) → below (stamp_of (at payments i)) (stamp_of (at payments best)) ≡ false
-      → least limit (before payments) (is_free payments own) (i + 1) ≡ best
-  next-keep i best e q n b =
-      rw add-one (least-keep (before payments) limit (is_free payments own) i e (λ z. n (q ∙ z)) (rw (← q) b)) ∙ sym q
+      pack : ℕ → Option (ℕ × Stamp)
+      pack n = cond (eqb n limit) None (Some (n, stamp_of (at payments n)))
+
+      here : pack i ≡ Some (i, stamp_of (at payments i))
+      here = ap (λ z. cond z None (Some (i, stamp_of (at payments i)))) (ne_eqb i limit (λ q. omega arith))
+
+  pub best-place : option_map (λ x. x.0) (best_of limit) ≡ first_free payments own
+  best-place =
+      split (eqb (least limit (before payments) (is_free payments own) limit) limit) (λ t. simp t) (λ t. simp t)
 
   pub free-none : none_free payments own ≡ true → (i : ℕ) → i < limit → is_free payments own i ≡ false
   free-none e i h = any_none limit (is_free payments own) (not-true _ e) i h

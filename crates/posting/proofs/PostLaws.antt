@@ -4,6 +4,7 @@ use Prim.Native.Nat.{ℕ, ◌<◌, ◌≤◌}
 use mathlib.Core.Path.{◌≡◌, refl, ap, ap₂, sym, ◌∙◌, subst, fun_ext}
 use mathlib.Core.List.{List, [], ◌∷◌, ◌++◌, map}
 use mathlib.Core.Bool.{true, not, cond, ◌&&◌}
+use Rattle.std.specs.Prelude.{Option, Some, None, is_none, IfSome}
 use native.Mathlib.Omega.{arith}
 use lib.Dec.{eqb}
 use native.Mathlib.Nat.{zero-add}
@@ -20,7 +21,8 @@ use Rattle.payment.specs.Stamps.{below}
 use Rattle.payment.specs.declared.Payment.{Payment}
 use Rattle.payment.specs.declared.Stamp.{Stamp}
 use Rattle.held.specs.Held.{at, limit, no_payment}
-use Rattle.posting.specs.Posting.{after_posting, before, held_back, holds_back, is_free, numbers, posting, to_post, written}
+use Rattle.posting.specs.Posting.{after_posting, before, first_free, held_back, holds_back, is_free, none_free, numbers, posting}
+use Rattle.posting.specs.Posting.{to_post, written}
 use Rattle.posting.proofs.FreeLaws.{back-other, free_other}
 
 -- the place of the next payment to post
@@ -95,6 +97,42 @@ module _ (payments : List Payment) (own i : ℕ) (h : i < length payments) (free
   same-numbers : (js : List ℕ) → map (λ j. (at (post_at payments i) j).number.0) js ≡ map (λ j. (at payments j).number.0) js
   same-numbers js = ap (λ (f : ℕ → ℕ). map f js) (fun_ext (same-part (λ p. p.number.0) refl))
 
+-- the search for the next payment finds none exactly when none is free
+next-none : (payments : List Payment) (own : ℕ) → eqb (next_of payments own) limit ≡ not (any limit (is_free payments own))
+next-none payments own =
+    split (any limit (is_free payments own))
+    (λ t. let first = (least_first (before payments) limit (is_free payments own) limit (omega arith) t).0 in
+    ne_eqb (next_of payments own) limit (λ e. omega (arith, first, e)) ∙ sym (ap not t))
+    (λ t. eq-eqb _ _ (least-none (before payments) limit (is_free payments own) limit t) ∙ sym (ap not t))
+
+pub first-is_none : (payments : List Payment) (own : ℕ) → is_none (first_free payments own) ≡ none_free payments own
+first-is_none payments own = split (eqb (next_of payments own) limit) (λ t. simp t) (λ t. simp t) ∙ next-none payments own
+
+-- what it finds is the place of a payment, and where it finds none there is none
+first-some : (payments : List Payment) (own i : ℕ) → first_free payments own ≡ Some i → (i ≡ next_of payments own) × (i < limit)
+first-some payments own i e =
+    split (any limit (is_free payments own))
+    (λ t. let first = (least_first (before payments) limit (is_free payments own) limit (omega arith) t).0 in
+    let some : Some (next_of payments own) ≡ Some i =
+    sym (ap (λ z. cond z None (Some (next_of payments own))) (ne_eqb (next_of payments own) limit (λ q. omega (arith, first, q)))) ∙ e in
+    let same : next_of payments own ≡ i = cc in (sym same, omega arith))
+    (λ t. let none : None ≡ Some i =
+    sym (ap (λ z. cond z None (Some (next_of payments own))) (next-none payments own ∙ ap not t)) ∙ e in absurd cc)
+
+pub first-within : (payments : List Payment) (own : ℕ) → IfSome (first_free payments own) (λ i. i < limit)
+first-within payments own = of-some (first_free payments own) (λ i e. (first-some payments own i e).1)
+  where
+    of-some : (found : Option ℕ) → ((i : ℕ) → found ≡ Some i → i < limit) → IfSome found (λ i. i < limit)
+    of-some None f = tt
+    of-some (Some i) f = f i refl
+
+pub first-none : (payments : List Payment) (own : ℕ) → first_free payments own ≡ None → limit ≤ next_of payments own
+first-none payments own e =
+    split (eqb (next_of payments own) limit)
+    (λ t. let same = eqb-true _ _ t in omega arith)
+    (λ t. let some : Some (next_of payments own) ≡ None =
+    sym (ap (λ z. cond z None (Some (next_of payments own))) t) ∙ e in absurd cc)
+
 module _ (payments : List Payment) (own : ℕ) (size : length payments ≡ limit) where
   any-free : (next_of payments own < limit) → any limit (is_free payments own) ≡ true
   any-free h =
@@ -119,6 +157,12 @@ module _ (payments : List Payment) (own : ℕ) (size : length payments ≡ limit
         after_same payments own i inside free,
       )
 
+  -- so it is of the one that the search finds
+  pub post-found : (i : ℕ) → first_free payments own ≡ Some i
+      → (is_free payments own i ≡ true) × (numbers payments own ≡ (at payments i).number.0 ∷ numbers (post_at payments i) own)
+      × (after_posting (post_at payments i) own ≡ after_posting payments own)
+  post-found i e = let found = first-some payments own i e in post-next i found.0 found.1
+
   -- no payment is left to post
   pub post-done : limit ≤ next_of payments own → (numbers payments own ≡ []) × (after_posting payments own ≡ payments)
   unfolding after_posting
@@ -130,14 +174,6 @@ module _ (payments : List Payment) (own : ℕ) (size : length payments ≡ limit
         listed_same limit _ _ (λ j l. ap (λ b. cond b (in_phase posted (at payments j)) (at payments j)) (none j l))
             ∙ listed-places payments limit no_payment size,
       ))
-
--- the search for the next payment finds none exactly when none is free
-pub next-none : (payments : List Payment) (own : ℕ) → eqb (next_of payments own) limit ≡ not (any limit (is_free payments own))
-next-none payments own =
-    split (any limit (is_free payments own))
-    (λ t. let first = (least_first (before payments) limit (is_free payments own) limit (omega arith) t).0 in
-    ne_eqb (next_of payments own) limit (λ e. omega (arith, first, e)) ∙ sym (ap not t))
-    (λ t. eq-eqb _ _ (least-none (before payments) limit (is_free payments own) limit t) ∙ sym (ap not t))
 
 pub numbers-few : (payments : List Payment) (own : ℕ) → length (numbers payments own) ≤ limit
 numbers-few payments own =

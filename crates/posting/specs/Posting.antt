@@ -1,8 +1,8 @@
 -- Rule 4: which stamped payments are posted, and in which order [R41 to R44].
 -- Assumes nothing.
-use Rattle.std.specs.Prelude.{ℕ, List, map, ◌++◌, Bool, cond, not, ◌&&◌, length, drop, ltb}
+use Rattle.std.specs.Prelude.{ℕ, Option, Some, None, List, map, ◌++◌, Bool, cond, not, ◌&&◌, length, drop, eqb, ltb}
 use Rattle.common.specs.Places.{any, listed}
-use Rattle.common.specs.Order.{sorted}
+use Rattle.common.specs.Order.{least, sorted}
 use Rattle.payment.specs.Payments.{in_phase, is_proposed, is_stamped, posted, proposal, stamp_of}
 use Rattle.payment.specs.Stamps.{below}
 use Rattle.payment.specs.declared.Payment.{Payment}
@@ -30,6 +30,11 @@ none_free payments own = not (any limit (is_free payments own))
 -- [N5] the order of posting: by stamp
 abbrev pub before : List Payment → ℕ → ℕ → Bool
 before payments i j = below (stamp_of (at payments i)) (stamp_of (at payments j))
+
+-- [R43, X5] for the code, which posts one after the other: the place of the next, free and of the lowest stamp, where there is one
+abbrev pub first_free : List Payment → ℕ → Option ℕ
+first_free payments own =
+    let i = least limit (before payments) (is_free payments own) limit in cond (eqb i limit) None (Some i)
 
 -- [R43] the places of all that are free, the lowest stamp first
 abbrev pub to_post : List Payment → ℕ → List ℕ

@@ -1,12 +1,12 @@
-// Posting: which stamped payments are free, and posting them by stamp [R41 to R44].
+// Posting: which stamped payments are free, and posting them by stamp [R41 to R44]. The payments and the own number come in as parts of
+// the ledger, whose struct stands above, in `ledger` [X4].
 #![tactic(auto)]
 
-ghost use Rattle.std.specs.Prelude.{◌≡◌};
-ghost use Rattle.common.specs.Order.{least};
+ghost use Rattle.std.specs.Prelude.{◌≡◌, ◌<◌, IfSome};
 ghost use Rattle.held.specs.Held.{limit};
-ghost use Rattle.posting.specs.Posting.{before, holds_back, is_free, left, none_free, posting};
+ghost use Rattle.posting.specs.Posting.{first_free, holds_back, left, none_free, posting};
 
-use frame::{LedgerNo, Time};
+use frame::LedgerNo;
 use held::HELD;
 use payment::{Payment, Stamp};
 
@@ -14,52 +14,43 @@ use payment::{Payment, Stamp};
 fn holds_back(p: Payment, own: LedgerNo, stamp: Stamp) -> bool
     ensures { result ≡ holds_back own.0 stamp p }
 {
-    let times = p.times;
-    (p.phase == payment::PROPOSED) & payment::proposal(times, own).is_below(stamp)
+    p.phase == payment::PROPOSED && payment::proposal(p.times, own).is_below(stamp)
 }
 
-// [R43, X5] The place of the stamped payment of the least stamp that no proposed payment holds back; HELD where there is none.
-fn next(payments: [Payment; HELD], own: LedgerNo) -> usize
-    ensures { result ≡ least limit (before payments) (is_free payments own.0) limit }
+// [R43, X5] The place of the stamped payment of the least stamp that no proposed payment holds back, where there is one.
+fn next(payments: [Payment; HELD], own: LedgerNo) -> Option<usize>
+    ensures first { result ≡ first_free payments own.0 }
+    ensures within { IfSome result (λ i. i < limit) }
 {
-    let mut best = HELD;
-    let mut first = Stamp {
-        time: Time(0),
-        ledger: LedgerNo(0),
-    };
-    'candidates: for i in 0..HELD {
-        let p = payments[i];
+    let mut best: Option<(usize, Stamp)> = None;
+    'candidates: for (i, p) in payments.iter().enumerate() {
         if p.phase != payment::STAMPED {
             continue 'candidates;
         }
         let stamp = p.stamp();
-        for j in 0..HELD {
-            let q = payments[j];
-            if holds_back(q, own, stamp) {
+        for q in &payments {
+            if holds_back(*q, own, stamp) {
                 continue 'candidates;
             }
         }
-        if best == HELD {
-            best = i;
-            first = stamp;
-        } else if stamp.is_below(first) {
-            best = i;
-            first = stamp;
+        if best.is_none_or(|(_, least)| stamp.is_below(least)) {
+            best = Some((i, stamp));
         }
     }
-    best
+    best.map(|(i, _)| i)
 }
 
 // [S9] Whether no stamped payment is free to post.
 pub fn none_free(payments: [Payment; HELD], own: LedgerNo) -> bool
     ensures { result ≡ none_free payments own.0 }
 {
-    next(payments, own) == HELD
+    next(payments, own).is_none()
 }
 
 #[derive(Clone, Copy)]
 pub struct Posted {
     pub payments: [Payment; HELD],
+    // How many numbers stand at the front of the list, which is the caller's.
     pub count: usize,
 }
 
@@ -68,23 +59,14 @@ pub fn post(mut payments: [Payment; HELD], own: LedgerNo, list: &mut [u32]) -> P
     ensures { left result list.new ≡ posting payments own.0 list.old }
 {
     if list.len() < HELD {
-        return Posted {
-            payments: payments,
-            count: 0,
-        };
+        return Posted { payments, count: 0 };
     }
-    let mut n: usize = 0;
-    let mut i = next(payments, own);
-    while i < HELD {
-        let mut p = payments[i];
-        list[n] = p.number.0;
+    // The number posted is promised (`left`), so it is counted.
+    let mut n = 0;
+    while let Some(i) = next(payments, own) {
+        list[n] = payments[i].number.0;
+        payments[i].phase = payment::POSTED;
         n += 1;
-        p.phase = payment::POSTED;
-        payments[i] = p;
-        i = next(payments, own);
     }
-    Posted {
-        payments: payments,
-        count: n,
-    }
+    Posted { payments, count: n }
 }

@@ -1,18 +1,36 @@
 -- Laws of the records, one for each way through the definitions.
 -- Assumes nothing.
-use Prim.Native.Nat.{ℕ, ◌+◌, ◌≤◌}
-use mathlib.Core.Path.{◌≡◌, refl, ap, ap₂, sym, ◌∙◌}
-use mathlib.Core.List.{List, ◌∷◌}
+use Prim.Native.Nat.{ℕ, ◌≤◌}
+use mathlib.Core.Path.{◌≡◌, refl, ap, sym, ◌∙◌}
+use mathlib.Core.List.{List}
 use mathlib.Core.Bool.{Bool, true, false, cond, not, ◌||◌}
+use mathlib.Core.Logic.{inl, inr}
 use native.Mathlib.Omega.{arith}
 use lib.Dec.{eqb, ltb}
-use borrow.Author.Tests.{eq-eqb, eqb-false, eqb-true, ltb-false, ne_eqb, not-false}
-use lib.ListN.{length, take, drop, get_or-eq_default}
-use Rattle.common.proofs.TestLaws.{or_left, or_right, split}
+use borrow.Author.Tests.{eq-eqb, eqb-false, eqb-true, ltb-false, ne_eqb, not-false, le-ltb, lt-ltb}
+use lib.ListN.{length}
+use Rattle.common.proofs.TestLaws.{or_left, or_right, or-true, split}
 use Rattle.frame.specs.Digits.{sum}
 use Rattle.frame.specs.Frames.{body, kind_in, known, multicast, propose, total_in}
 use Rattle.ledgers.specs.Ledgers.{is_group, is_ledger_of}
-use Rattle.records.specs.Records.{carried, frame_in, frame_kind, record_total, records, second_in, stops}
+use Rattle.records.specs.Records.{carried, frame_in, kind_of, record_size, record_total, records, row_of, row_total, second_in, stops}
+use Rattle.records.specs.declared.Kind.{Kind}
+use Rattle.records.specs.declared.Kind.TheVariants.{SetUp, Multicast, Propose}
+use Rattle.std.specs.Option.{unwrap_or}
+use Rattle.std.specs.Prelude.{Option, ◌+◌, Some, None, ◌<◌, ◌⊎◌}
+use Rattle.std.proofs.lemmas.Option.{cond_some, none-some}
+
+-- by which kind a byte stands for
+by_kind : {A : Type 0} (b : ℕ)
+    → (b ≡ 16 → A) → (b ≡ 17 → A) → (b ≡ 18 → A) → ((b ≡ 16 → ⊥) → (b ≡ 17 → ⊥) → (b ≡ 18 → ⊥) → A) → A
+by_kind b f g h other =
+    split (eqb b 16)
+    (λ t. f (eqb-true b 16 t))
+    (λ t. split (eqb b 17)
+    (λ u. g (eqb-true b 17 u))
+    (λ u. split (eqb b 18)
+    (λ v. h (eqb-true b 18 v))
+    (λ v. other (eqb-false b 16 t) (eqb-false b 17 u) (eqb-false b 18 v))))
 
 -- a kind is unknown exactly where its record has no length
 pub unknown-total : (k : ℕ) → not (known records k) ≡ eqb (record_total k) 0
@@ -26,40 +44,70 @@ total-other k a b c = simp (ne_eqb _ _ a, ne_eqb _ _ b, ne_eqb _ _ c)
 pub total-propose : (k : ℕ) → (k ≡ 16 → ⊥) → (k ≡ 17 → ⊥) → (record_total k ≡ 0 → ⊥) → record_total k ≡ 10
 unfolding record_total known body sum
 total-propose k a b some =
-    split (eqb k 18)
-    (λ t. ap record_total (eqb-true k 18 t))
-    (λ t. absurd (some (total-other k a b (eqb-false k 18 t))))
+    by_kind k
+    (λ e. absurd (a e))
+    (λ e. absurd (b e))
+    (ap record_total)
+    (λ d e f. absurd (some (total-other k d e f)))
 
 -- a record has a byte after its kind
 pub total-second : (k : ℕ) → (record_total k ≡ 0 → ⊥) → 2 ≤ record_total k
 unfolding record_total known body sum
 total-second k some =
-    split (eqb k 16)
-    (λ t. let e : record_total k ≡ 2 = ap record_total (eqb-true k 16 t) in omega arith)
-    (λ t. split (eqb k 17)
-    (λ u. let e : record_total k ≡ 7 = ap record_total (eqb-true k 17 u) in omega arith)
-    (λ u. let e = total-propose k (eqb-false k 16 t) (eqb-false k 17 u) some in omega arith))
+    by_kind k
+    (λ a. let e : record_total k ≡ 2 = ap record_total a in omega arith)
+    (λ a. let e : record_total k ≡ 7 = ap record_total a in omega arith)
+    (λ a. let e : record_total k ≡ 10 = ap record_total a in omega arith)
+    (λ a b c. absurd (some (total-other k a b c)))
 
--- no record is longer than one of kind 18
-pub total-most : (k : ℕ) → record_total k ≤ 10
+-- the byte of a kind
+abbrev byte_of : Option Kind → ℕ
+byte_of None = 0
+byte_of (Some k) = (row_of k).kind
+
+pub kind_byte : (b : ℕ) (k : Kind) → kind_of b ≡ Some k → b ≡ (row_of k).kind
+unfolding kind_of
+kind_byte b k is =
+    by_kind b
+    (λ e. e ∙ ap byte_of (sym (ap kind_of e) ∙ is))
+    (λ e. e ∙ ap byte_of (sym (ap kind_of e) ∙ is))
+    (λ e. e ∙ ap byte_of (sym (ap kind_of e) ∙ is))
+    (λ p q r. let none : kind_of b ≡ None = simp (ne_eqb _ _ p, ne_eqb _ _ q, ne_eqb _ _ r) in absurd (none-some k (sym none ∙ is)))
+
+-- how long a record of a kind is
+row-total : (k : Kind) → record_total (row_of k).kind ≡ row_total (row_of k)
 unfolding record_total known body sum
-total-most k =
-    split (eqb k 16)
-    (λ t. let e : record_total k ≡ 2 = ap record_total (eqb-true k 16 t) in omega arith)
-    (λ t. split (eqb k 17)
-    (λ u. let e : record_total k ≡ 7 = ap record_total (eqb-true k 17 u) in omega arith)
-    (λ u. split (eqb (record_total k) 0)
-    (λ z. let none = eqb-true (record_total k) 0 z in omega arith)
-    (λ z. let e = total-propose k (eqb-false k 16 t) (eqb-false k 17 u) (eqb-false (record_total k) 0 z) in omega arith)))
+row-total SetUp = refl
+row-total Multicast = refl
+row-total Propose = refl
 
--- three tests, of which the first two are made together
-cut : (a b c : Bool) → a || b ≡ true → a || (b || c) ≡ true
-cut true b c e = refl
-cut false true c e = refl
-cut false false c e = absurd (let z : ◌≡◌ {A = ℕ} 0 1 = cc in omega arith)
+pub total-of : (b : ℕ) (k : Kind) → kind_of b ≡ Some k → record_total b ≡ row_total (row_of k)
+total-of b k is = ap record_total (kind_byte b k is) ∙ row-total k
 
-past : (a b c : Bool) → a || b ≡ false → a || (b || c) ≡ c
-past a b c e = simp (or_left a b e, or_right a b e)
+pub total-none : (b : ℕ) → kind_of b ≡ None → record_total b ≡ 0
+unfolding kind_of
+total-none b is =
+    by_kind b
+    (λ e. absurd (none-some SetUp (sym is ∙ ap kind_of e)))
+    (λ e. absurd (none-some Multicast (sym is ∙ ap kind_of e)))
+    (λ e. absurd (none-some Propose (sym is ∙ ap kind_of e)))
+    (total-other b)
+
+-- the length, where there is one
+size-by-total : (b : ℕ) → record_size b ≡ cond (eqb (record_total b) 0) None (Some (record_total b))
+unfolding record_size
+size-by-total b =
+    split (known records b)
+    (λ t. let e = unknown-total b in simp (t, sym (unknown-total b) ∙ ap not t))
+    (λ t. let e = unknown-total b in simp (t, sym (unknown-total b) ∙ ap not t))
+
+pub size-of : (b : ℕ) (k : Kind) → kind_of b ≡ Some k → record_size b ≡ Some (row_total (row_of k))
+size-of b k is =
+    let total = total-of b k is in
+    size-by-total b ∙ simp (total, ne_eqb (row_total (row_of k)) 0 (λ z. omega arith))
+
+pub size-none : (b : ℕ) → kind_of b ≡ None → record_size b ≡ None
+size-none b is = size-by-total b ∙ simp (total-none b is)
 
 -- whether a record that is whole and of a known kind ends the run
 abbrev judged : ℕ → List ℕ → Bool
@@ -67,44 +115,43 @@ judged n bytes = cond (eqb (kind_in bytes) 16) (not (is_group (second_in bytes))
 
 -- when a record ends the run
 module _ (n : ℕ) (bytes : List ℕ) where
-  stops-by-total : stops n bytes ≡ eqb (record_total (kind_in bytes)) 0 || (ltb (length bytes) (record_total (kind_in bytes)) || judged n bytes)
+  stops-by-total : stops n bytes
+      ≡ eqb (record_total (kind_in bytes)) 0 || (ltb (length bytes) (record_total (kind_in bytes)) || judged n bytes)
   unfolding stops
   stops-by-total = ap (λ b. b || (ltb (length bytes) (record_total (kind_in bytes)) || judged n bytes)) (unknown-total (kind_in bytes))
 
   pub stops-unknown : record_total (kind_in bytes) ≡ 0 → stops n bytes ≡ true
   stops-unknown e = stops-by-total ∙ simp (eq-eqb _ _ e)
 
-  pub stops-empty : length bytes ≡ 0 → stops n bytes ≡ true
-  unfolding record_total known
-  stops-empty e = stops-unknown (ap record_total (get_or-eq_default bytes 0 (omega arith)))
+  pub stops-cut : length bytes < record_total (kind_in bytes) → stops n bytes ≡ true
+  stops-cut h = stops-by-total ∙ simp (lt-ltb _ _ h, or-true)
 
-  module _ (total : ℕ) (is : total ≡ record_total (kind_in bytes)) where
-    tested : (b : Bool) → eqb total 0 || ltb (length bytes) total ≡ b
-        → eqb (record_total (kind_in bytes)) 0 || ltb (length bytes) (record_total (kind_in bytes)) ≡ b
-    tested b e = ap (λ t. eqb t 0 || ltb (length bytes) t) (sym is) ∙ e
+  pub stops-short : length bytes < 2 → stops n bytes ≡ true
+  stops-short h =
+      split (eqb (record_total (kind_in bytes)) 0)
+      (λ t. stops-unknown (eqb-true _ _ t))
+      (λ t. let two = total-second (kind_in bytes) (eqb-false _ _ t) in stops-cut (omega arith))
 
-    pub stops-cut : eqb total 0 || ltb (length bytes) total ≡ true → stops n bytes ≡ true
-    stops-cut e = stops-by-total ∙ cut (eqb (record_total (kind_in bytes)) 0) (ltb (length bytes) (record_total (kind_in bytes)))
-        (judged n bytes) (tested true e)
+  -- a whole record of a known kind
+  module _ (k : Kind) (is : kind_of (kind_in bytes) ≡ Some k) (whole : row_total (row_of k) ≤ length bytes) where
+    stops-whole : stops n bytes ≡ judged n bytes
+    stops-whole =
+        let total = total-of (kind_in bytes) k is in
+        stops-by-total
+        ∙ simp (
+          ne_eqb (record_total (kind_in bytes)) 0 (λ z. omega arith),
+          le-ltb (length bytes) (record_total (kind_in bytes)) (omega arith),
+        )
 
-    stops-whole : eqb total 0 || ltb (length bytes) total ≡ false → stops n bytes ≡ judged n bytes
-    stops-whole e = stops-by-total ∙ past (eqb (record_total (kind_in bytes)) 0) (ltb (length bytes) (record_total (kind_in bytes)))
-        (judged n bytes) (tested false e)
+    pub stops-set-up : k ≡ SetUp → stops n bytes ≡ not (is_group (second_in bytes))
+    stops-set-up e = stops-whole ∙ simp (eq-eqb _ _ (kind_byte (kind_in bytes) k is ∙ ap (λ j. (row_of j).kind) e))
 
-    pub stops-set-up : eqb total 0 || ltb (length bytes) total ≡ false → kind_in bytes ≡ 16 → stops n bytes ≡ not (is_group (second_in bytes))
-    stops-set-up e k = stops-whole e ∙ simp (eq-eqb _ _ k)
-
-    pub stops-step : eqb total 0 || ltb (length bytes) total ≡ false → (kind_in bytes ≡ 16 → ⊥)
-        → stops n bytes ≡ not (is_ledger_of n (second_in bytes))
-    stops-step e k = stops-whole e ∙ simp (ne_eqb _ _ k)
-
-    -- a record past both tests has a byte after its kind
-    pub whole-second : eqb total 0 || ltb (length bytes) total ≡ false → 2 ≤ length bytes
-    whole-second e =
-        let none = eqb-false total 0 (or_left (eqb total 0) _ e) in
-        let all = ltb-false (length bytes) total (or_right (eqb total 0) _ e) in
-        let two = total-second (kind_in bytes) (λ z. none (is ∙ z)) in
-        omega arith
+    pub stops-step : (k ≡ Multicast) ⊎ (k ≡ Propose) → stops n bytes ≡ not (is_ledger_of n (second_in bytes))
+    stops-step e = stops-whole ∙ simp (ne_eqb (kind_in bytes) 16 (no-set-up e))
+      where
+        no-set-up : (k ≡ Multicast) ⊎ (k ≡ Propose) → kind_in bytes ≡ 16 → ⊥
+        no-set-up (inl m) z = let b = kind_byte (kind_in bytes) k is ∙ ap (λ j. (row_of j).kind) m in omega arith
+        no-set-up (inr p) z = let b = kind_byte (kind_in bytes) k is ∙ ap (λ j. (row_of j).kind) p in omega arith
 
   -- one that goes on has a known kind, is whole, and has a byte after its kind
   module _ (go : stops n bytes ≡ false) where
@@ -136,28 +183,21 @@ pub frame-propose : (bytes : List ℕ) → (kind_in bytes ≡ 17 → ⊥) → fr
 unfolding frame_in
 frame-propose bytes n = simp (ne_eqb _ _ n)
 
--- the kind of the frame of a step record
-pub kind-multicast : (k : ℕ) → k ≡ 17 → frame_kind k ≡ 1
-kind-multicast k e = simp (eq-eqb _ _ e)
+-- the length, or 0 where the kind is unknown
+pub size-or-zero : (k : ℕ) → unwrap_or (record_size k) 0 ≡ record_total k
+unfolding record_size record_total
+size-or-zero k = split (known records k) (λ t. simp t) (λ t. simp t)
 
-pub kind-propose : (k : ℕ) → (k ≡ 17 → ⊥) → frame_kind k ≡ 2
-kind-propose k n = simp (ne_eqb _ _ n)
+pub size-some : (k n : ℕ) → record_size k ≡ Some n → record_total k ≡ n
+size-some k n is = sym (size-or-zero k) ∙ ap (λ o. unwrap_or o 0) is
 
--- the frame of a step record that goes on, in the first bytes of what the code made of it
-module _ (n : ℕ) (bytes made : List ℕ) (go : stops n bytes ≡ false) (step : kind_in bytes ≡ 16 → ⊥) (kind size : ℕ)
-    (is-kind : kind ≡ frame_kind (kind_in bytes)) (is-size : size + 1 ≡ record_total (kind_in bytes)) (body : ℕ) (is-body : body + 1 ≡ size)
-    (is : take (body + 1) made ≡ kind ∷ take body (drop 2 bytes)) where
-  by_parts : (k m : ℕ) → kind ≡ k → body ≡ m → take size made ≡ k ∷ take m (drop 2 bytes)
-  by_parts k m e f =
-      ap (λ (i : ℕ). take i made) (sym is-body) ∙ is ∙ ap₂ (λ (x i : ℕ). x ∷ take i (drop 2 bytes)) e f
+pub size-missing : (k : ℕ) → record_size k ≡ None → record_total k ≡ 0
+size-missing k is = sym (size-or-zero k) ∙ ap (λ o. unwrap_or o 0) is
 
-  pub frame_made : take size made ≡ frame_in bytes
-  unfolding record_total known body sum
-  frame_made =
-      split (eqb (kind_in bytes) 17)
-      (λ t. let e = eqb-true (kind_in bytes) 17 t in
-      let seven : record_total (kind_in bytes) ≡ 7 = ap record_total e in
-      by_parts 1 5 (is-kind ∙ kind-multicast (kind_in bytes) e) (omega arith) ∙ sym (frame-multicast bytes e))
-      (λ t. let e = eqb-false (kind_in bytes) 17 t in
-      let ten = total-propose (kind_in bytes) step e (goes-known n bytes go) in
-      by_parts 2 8 (is-kind ∙ kind-propose (kind_in bytes) e) (omega arith) ∙ sym (frame-propose bytes e))
+-- a length is none of nothing
+pub size-positive : (k n : ℕ) → record_size k ≡ Some n → 1 ≤ n
+unfolding record_size record_total
+size-positive k n is =
+    let (known, same) = cond_some _ _ _ is in
+    let total : record_total k ≡ 1 + sum (body records k) = ap (λ b. cond b (total_in records k) 0) known in
+    omega (arith, same, total)

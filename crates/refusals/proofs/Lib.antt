@@ -2,3 +2,4 @@
 -- Assumes nothing.
 pub mod TableLaws
 pub mod RefusalLaws
+pub mod Settled

@@ -28,6 +28,14 @@ pub give : (k : ℕ) (rs : List Row) → k < length rs → first_given rs ≡ fi
 unfolding first_given
 give k rs h e g = e ∙ ap first_given (drop-cons rs k no_row h) ∙ ap (λ b. cond b (get_or rs k no_row).no (first_given (drop (suc k) rs))) g
 
+-- where no row of a table is given, none of those after the first is
+pub after-first : (r : Row) (rs : List Row) → eqb r.no 0 ≡ false → first_given (r ∷ rs) ≡ 0 → first_given rs ≡ 0
+unfolding first_given
+after-first r rs n e =
+    split r.given
+    (λ t. both (ap (λ k. eqb k 0) (sym (ap (λ b. cond b r.no (first_given rs)) t) ∙ e)) n)
+    (λ t. sym (ap (λ b. cond b r.no (first_given rs)) t) ∙ e)
+
 -- every row has a number of its own, which is not 0
 unfoldable pub all_numbered : List Row → Bool
 all_numbered [] = true

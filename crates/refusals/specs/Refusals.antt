@@ -1,13 +1,21 @@
 -- The rows of the table that judge a frame [A3 to A11], in their order. Each says what it reads of the ledger.
 -- Assumes nothing.
-use Rattle.std.specs.Prelude.{ℕ, ◌<◌, ◌≡◌, List, [], ◌∷◌, Bool, true, false, cond, not, ◌&&◌, ◌||◌, get_or, length, eqb, ltb}
-use Rattle.frame.specs.Frames.{Values, frame_values, not_a_frame, nothing, propose}
+use Rattle.std.specs.Prelude.{ℕ, ◌<◌, ◌≡◌, List, [], ◌∷◌, Bool, true, false, cond, not, ◌&&◌, ◌||◌, get_or, length, eqb, ltb, Option, Some, None, Result, Ok, Err}
+use Rattle.std.specs.Option.{option_map}
+use Rattle.frame.specs.Frames.{Values, frame_values, not_a_frame, propose, values_of}
+use Rattle.frame.specs.declared.Frame.{Frame}
+use Rattle.frame.specs.declared.LedgerNo.{LedgerNo}
+use Rattle.frame.specs.declared.PaymentNo.{PaymentNo}
+use Rattle.frame.specs.declared.Time.{Time}
 use Rattle.ledgers.specs.Ledgers.{has, unlawful}
 use Rattle.payment.specs.Payments.{has_proposal, heard_from, is_time, is_waiting, last_time, new_payment, time_from}
 use Rattle.payment.specs.declared.Payment.{Payment}
-use Rattle.held.specs.Held.{at, held_for_another, holds, limit, place_of}
-use Rattle.refusals.specs.declared.Incoming.{Incoming}
+use Rattle.held.specs.Held.{at, found_at, held_for_another, holds, limit, place_of}
 use Rattle.refusals.specs.declared.Judged.{Judged}
+use Rattle.refusals.specs.declared.Refusal.{Refusal}
+use Rattle.refusals.specs.declared.Refused.{Refused}
+use Rattle.refusals.specs.declared.Refusal.TheVariants.{Unsound, TooShort, NotAFrame, PaymentZero, Unlawful, BadSource, BadTime}
+use Rattle.refusals.specs.declared.Refusal.TheVariants.{Conflict, Repeat, Full, ClockAtEnd}
 
 -- a row of the table: the number, and whether its condition holds
 pub record Row : Type 0 where
@@ -32,6 +40,33 @@ pub record First (rs : List Row) (k : ℕ) : Type 0 where
   pub so : applies rs k ≡ true
   pub none_before : (j : ℕ) → j < k → applies rs j ≡ false
 
+-- [P5] the number of each refusal
+abbrev pub no_of : Refusal → ℕ
+no_of Unsound = 1
+no_of TooShort = 2
+no_of NotAFrame = 3
+no_of PaymentZero = 4
+no_of Unlawful = 5
+no_of BadSource = 6
+no_of BadTime = 7
+no_of Conflict = 8
+no_of Repeat = 9
+no_of Full = 10
+no_of ClockAtEnd = 11
+
+-- [P5, T1] the number of an answer: 0 where nothing is refused
+abbrev pub answer_no : Result (Unit {0}) Refusal → ℕ
+answer_no (Ok taken) = 0
+answer_no (Err refusal) = no_of refusal
+
+-- the values that the rows and the rules read of a frame
+pub record Incoming : Type 0 where
+  pub kind : ℕ
+  pub payment : PaymentNo
+  pub destinations : ℕ
+  pub source : LedgerNo
+  pub time : Time
+
 -- the frame's values by name; a MULTICAST has no source and no time: 0
 abbrev pub incoming : Values → Incoming
 incoming v =
@@ -42,6 +77,10 @@ incoming v =
       source = record { 0 = get_or v.numbers 2 0 };
       time = record { 0 = get_or v.numbers 3 0 };
     }
+
+-- a frame that was read
+abbrev pub received : Frame → Incoming
+received f = incoming (values_of f)
 
 -- the frame is a PROPOSE; any other that was read is a MULTICAST
 abbrev pub is_propose : Incoming → Bool
@@ -129,23 +168,40 @@ payment_in payments f = cond (is_held payments f) (held_one payments f) (new_pay
 abbrev pub place_in : ℕ → List Payment → Incoming → ℕ
 place_in count payments f = cond (is_held payments f) (found payments f) count
 
--- for the code: what judging tells of a frame of these values, with this answer
-abbrev pub judged_as : ℕ → ℕ → List Payment → Incoming → Judged
-judged_as answer count payments f =
-    record {
-      answer = answer;
-      frame = f;
-      held = is_held payments f;
-      place = place_in count payments f;
-      payment = payment_in payments f;
-    }
+-- a frame with its payment: the held one at its place, or a new one
+abbrev pub looked_up : List Payment → Frame → Judged
+looked_up payments f =
+    record { frame = f; place = found_at payments (received f).payment.0; payment = payment_in payments (received f) }
 
--- for the code: what judging tells of bytes that are no frame
-abbrev pub no_frame : Judged
-no_frame = record { answer = 3; frame = incoming nothing; held = false; place = 0; payment = new_payment 0 0 }
+-- what is known of a frame: its values, its place where its payment is held, and that payment or a new one
+pub record Known : Type 0 where
+  pub frame : Values
+  pub place : Option ℕ
+  pub payment : Payment
 
--- for the code: what judging tells of any bytes
-unfoldable pub judge : ℕ → ℕ → ℕ → ℕ → List Payment → List ℕ → Judged
-judge group own clock count payments bytes =
+-- what judging tells: the answer, and what is known where the bytes are a frame
+pub record Judgement : Type 0 where
+  pub answer : ℕ
+  pub known : Option Known
+
+abbrev pub known_of : Judged → Known
+known_of j = record { frame = values_of j.frame; place = j.place; payment = j.payment }
+
+-- [P5] which answer each case of a judging stands for, and what it knows
+abbrev pub told : Result Judged Refused → Judgement
+told (Ok j) = record { answer = 0; known = Some (known_of j) }
+told (Err r) = record { answer = no_of r.refusal; known = option_map known_of r.judged }
+
+-- what is known of bytes that are a frame
+abbrev pub known_in : List Payment → List ℕ → Known
+known_in payments bytes =
     let f = incoming (frame_values bytes) in
-    cond (not_a_frame bytes) no_frame (judged_as (first_given (rows group own clock count payments f)) count payments f)
+    record { frame = frame_values bytes; place = found_at payments f.payment.0; payment = payment_in payments f }
+
+-- [T1] judging: the first row that applies gives the answer
+unfoldable pub judge : ℕ → ℕ → ℕ → ℕ → List Payment → List ℕ → Judgement
+judge group own clock count payments bytes =
+    record {
+      answer = first_given (frame_rows group own clock count payments bytes);
+      known = cond (not_a_frame bytes) None (Some (known_in payments bytes));
+    }

@@ -1,44 +1,34 @@
 -- Laws of the clauses of soundness that speak of one payment or of two, one for each way through the definitions.
 -- Assumes nothing.
-use Prim.Native.Nat.{ℕ, suc, ◌<◌}
+use Prim.Native.Nat.{ℕ, zero, suc, ◌<◌}
 use mathlib.Core.Path.{◌≡◌, refl, ap, ap₂, sym, ◌∙◌, subst}
 use mathlib.Core.Bool.{Bool, true, false, cond, not, ◌&&◌}
 use mathlib.Core.Logic.{⊎_elim}
+use mathlib.Core.List.{List, [], ◌∷◌}
+use lib.ListN.{get_or, length, replicate}
+use lib.Pointwise.{pointwise}
+use Rattle.std.proofs.Math.Bool.{and_comm}
+use Rattle.frame.specs.declared.Time.{Time}
 use native.Mathlib.Omega.{arith}
 use lib.Dec.{eqb}
-use borrow.Author.Tests.{eq-eqb, eqb-false, eqb-true, ne_eqb}
+use borrow.Author.Tests.{eq-eqb, eqb-false, eqb-true, lt-ltb, ne_eqb}
 use Rattle.common.specs.Places.{every}
 use Rattle.common.proofs.PlaceLaws.{every-at, every-same}
-use Rattle.common.proofs.TestLaws.{and_left, and_right, and-stop, and-true, both, or_cases, split}
+use Rattle.common.proofs.TestLaws.{and-false, and_left, and_right, and-true, both, or_cases, split}
 use Rattle.ledgers.specs.Ledgers.{has, most_ledgers}
 use Rattle.ledgers.proofs.LedgerLaws.{has-empty}
-use Rattle.payment.specs.Payments.{all_heard, has_proposal, has_stamp, heard_from, is_posted, is_proposed}
+use Rattle.payment.specs.Payments.{all_heard, has_proposal, has_stamp, heard_from, is_posted, is_proposed, no_time, time_in}
 use Rattle.payment.specs.Payments.{is_stamped, is_waiting, keeps, stamp_is_of, stamp_of, time_from}
 use Rattle.payment.proofs.KeptLaws.{keeps-proposes, stamp-proposed}
 use Rattle.right.specs.Right.{heard_right, phase_right, time_right, times_differ, unused}
 use Rattle.payment.specs.declared.Payment.{Payment}
 
 module _ (p : Payment) (k : ℕ) where
-  pub right-unheard : heard_from p k ≡ false → time_right p k ≡ eqb (time_from p k) 0
-  right-unheard e = simp e
-
   pub right-elsewhere : heard_from p k ≡ true → has p.destinations k ≡ false → time_right p k ≡ false
   right-elsewhere e f = simp (e, f)
 
 -- the clause on the phase, by the phase and by what was heard
 module _ (own : ℕ) (p : Payment) where
-  pub phase-waiting : p.phase ≡ 0 → phase_right own p ≡ not (heard_from p own) && not (eqb p.heard 0)
-  unfolding phase_right
-  phase-waiting e = simp (eq-eqb _ _ e)
-
-  pub phase-proposed : p.phase ≡ 1 → phase_right own p ≡ heard_from p own && not (all_heard p)
-  unfolding phase_right
-  phase-proposed e = simp (eq-eqb _ _ e, ne_eqb p.phase 0 (λ z. omega arith))
-
-  pub phase-later : (p.phase ≡ 0 → ⊥) → (p.phase ≡ 1 → ⊥) → phase_right own p ≡ has_stamp p && all_heard p
-  unfolding phase_right
-  phase-later e f = simp (ne_eqb _ _ e, ne_eqb _ _ f)
-
   pub waiting-own : p.phase ≡ 0 → heard_from p own ≡ true → phase_right own p ≡ false
   unfolding phase_right
   waiting-own e h = simp (eq-eqb _ _ e, h)
@@ -63,16 +53,37 @@ module _ (own : ℕ) (p : Payment) where
   unfolding phase_right
   later-none e f h = simp (ne_eqb _ _ e, ne_eqb _ _ f, h)
 
--- where nothing is heard, all times are 0 exactly when each is right
-pub unused-right : (p : Payment)
-    → unused p ≡ eqb p.number.0 0 && (eqb p.destinations 0 && (eqb p.heard 0 && (is_waiting p && heard_right p)))
-unfolding unused heard_right
-unused-right p =
-    ap (λ b. eqb p.number.0 0 && (eqb p.destinations 0 && b))
-    (split (eqb p.heard 0)
-    (λ t. ap (λ b. eqb p.heard 0 && (is_waiting p && b))
-    (every-same most_ledgers _ _ (λ k l. sym (right-unheard p (suc k) (ap (λ b. has b (suc k)) (eqb-true _ _ t) ∙ has-empty (suc k))))))
-    (λ t. and-stop _ t ∙ sym (and-stop _ t)))
+-- a test of each place is one of the first, and of those that follow
+every-first : (n : ℕ) (f : ℕ → Bool) → every (suc n) f ≡ f 0 && every n (λ k. f (suc k))
+unfolding every
+every-first zero f = refl
+every-first (suc n) f = ap (λ b. f (suc n) && b) (every-first n f) ∙ swap (f (suc n)) (f 0) (every n (λ k. f (suc k)))
+  where
+    swap : (a b c : Bool) → a && (b && c) ≡ b && (a && c)
+    swap true b c = refl
+    swap false b c = sym (and-false b)
+
+-- times that equal so many zeros are 0 at each place
+zeros : (ts : List Time) (n : ℕ) → length ts ≡ n
+    → pointwise (λ a b. eqb a.0 b.0) ts (replicate n no_time) ≡ every n (λ k. eqb (get_or ts k no_time).0 0)
+unfolding every
+zeros [] zero e = refl
+zeros [] (suc n) e = absurd (omega arith)
+zeros (t ∷ ts) zero e = absurd (omega arith)
+zeros (t ∷ ts) (suc n) e =
+    ap (λ b. eqb t.0 0 && b) (zeros ts n (omega arith)) ∙ sym (every-first n (λ k. eqb (get_or (t ∷ ts) k no_time).0 0))
+
+-- a place is unused exactly when it equals a payment with nothing in it
+pub unused-equal : (p : Payment) → length p.times ≡ 8
+    → eqb p.number.0 0
+    && (eqb p.destinations 0 && (eqb p.heard 0 && (pointwise (λ a b. eqb a.0 b.0) p.times (replicate 8 no_time) && is_waiting p)))
+    ≡ unused p
+unfolding unused time_in
+unused-equal p size =
+    ap (λ b. eqb p.number.0 0 && (eqb p.destinations 0 && (eqb p.heard 0 && b)))
+    (and_comm _ (is_waiting p)
+    ∙ ap (λ b. is_waiting p && b) (zeros p.times 8 size
+    ∙ every-same 8 _ _ (λ k h. sym (ap (λ b. eqb (cond b (get_or p.times k no_time) no_time).0 0) (lt-ltb k 8 h)))))
 
 -- a stamped or posted payment has heard every destination
 pub stamp-all : (own : ℕ) (p : Payment) → has_stamp p ≡ true → phase_right own p ≡ true → p.heard ≡ p.destinations

@@ -5,7 +5,7 @@ ghost use Rattle.std.specs.Prelude.{◌≡◌, true, length, take, ◌≤◌};
 ghost use Rattle.frame.specs.Typed.{Typed};
 ghost use Rattle.ledger.specs.Sound.{sound};
 
-use frame::{Frame, ReadAnswer};
+use frame::Frame;
 use ledger::{Ledger, Step};
 
 // [S12] A sound state stays sound.
@@ -19,29 +19,16 @@ fn keeps_sound(ledger: Ledger, frame: &[u8], outgoing: &mut [u8], postings: &mut
 fn typed(frame: Frame) -> Frame
     ensures { Typed frame × (result ≡ frame) }
 {
-    match frame {
-        Frame::Multicast {
-            payment,
-            destinations,
-        } => frame,
-        Frame::Propose {
-            payment,
-            destinations,
-            source,
-            time,
-        } => frame,
-    }
+    frame
 }
 
 // [F5] A frame that was read and is then written gives its bytes.
 fn read_is_written(bytes: &[u8], buffer: &mut [u8]) -> bool
     ensures { result ≡ true → length bytes.now ≤ length buffer.old → take (length bytes.now) buffer.new ≡ bytes.now }
 {
-    match frame::read(bytes) {
-        ReadAnswer::NotAFrame => false,
-        ReadAnswer::Accepted(f) => {
-            frame::write(f, buffer);
-            true
-        }
-    }
+    let Ok(f) = frame::read(bytes) else {
+        return false;
+    };
+    let _ = frame::write(f, buffer);
+    true
 }

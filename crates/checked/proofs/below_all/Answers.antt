@@ -1,30 +1,21 @@
-use mathlib.Core.Path.{ap, sym, ◌∙◌}
-use mathlib.Core.Bool.{not}
+use mathlib.Core.Path.{refl, ap, sym, ◌∙◌}
+use Rattle.std.specs.Prelude.{not}
 use borrow.Author.Tests.{eq-eqb}
-use Rattle.common.specs.Places.{every}
-use Rattle.common.proofs.PlaceLaws.{every-fails, every_more}
+use Rattle.std.proofs.Common.{rules, tests}
+use Rattle.std.proofs.lemmas.Iterator.{YieldsList-from_slice}
+use Rattle.std.proofs.lemmas.Iterator.Search.{all_from_yields_List}
+use Rattle.common.proofs.SearchLaws.{all-listed}
 use Rattle.common.proofs.TestLaws.{or-go}
-use Rattle.held.specs.Held.{at, limit}
+use Rattle.payment.specs.Payments.{stamp_of}
+use Rattle.held.specs.Held.{at, limit, no_payment}
 use Rattle.checked.specs.Checked.{comes_after}
-use Rattle.std.proofs.Common.{rules}
 use Rattle.checked.proofs.below_all.Goals as goal
 
-pub loop-j-init : goal.loop-j-init
-unfolding every
-loop-j-init c = search rules
-
-pub returns-then-not-comes_after : goal.returns-then-not-comes_after
-returns-then-not-comes_after c =
+pub returns : goal.returns
+returns c =
     let a = c.args in
-    sym (or-go _ (ap not (eq-eqb _ _ c.if-p-ne-POSTED.false))
-    ∙ ap (λ s. every limit (λ k. comes_after a.own.0 s (at a.payments k))) (sym c.stamp-stamp.ensures)
-    ∙ every-fails limit (λ k. comes_after a.own.0 c.stamp-stamp.result (at a.payments k)) c.loop-j.j c.loop-j-test.true
-    (sym c.comes_after.ensures ∙ c.if-not-comes_after.true))
-
-pub loop-j-preserved : goal.loop-j-preserved
-loop-j-preserved c =
-    let a = c.args in (
-      search rules,
-      every_more (λ k. comes_after a.own.0 c.stamp-stamp.result (at a.payments k)) c.loop-j.j c.loop-j.invariant.1
-          (sym c.comes_after.ensures ∙ c.if-not-comes_after.false),
-    )
+    all_from_yields_List (comes_after a.own.0 (stamp_of a.p)) _ _ c.all.result c.all.ensures.ran
+    (YieldsList-from_slice a.payments cc) (λ x b q k. search (rules, tests))
+    ∙ sym
+    (or-go _ (ap not (eq-eqb _ _ c.if-p-ne-POSTED.false))
+    ∙ all-listed (λ j. comes_after a.own.0 (stamp_of a.p) (at a.payments j)) _ a.payments no_payment limit (search rules) (λ i h. refl))

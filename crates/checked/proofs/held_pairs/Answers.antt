@@ -1,27 +1,31 @@
-use mathlib.Core.Path.{sym, ◌∙◌}
+use mathlib.Core.Path.{◌≡◌, refl, ap, sym, ◌∙◌}
+use native.Mathlib.Omega.{arith}
+use Rattle.std.specs.Prelude.{ℕ, ◌||◌, length, take, leb}
+use Rattle.std.specs.List.{enumerate_from, list_all}
+use Rattle.std.proofs.Common.{rules, tests}
+use Rattle.std.proofs.lemmas.Iterator.{YieldsList-from_slice, YieldsList-from_take}
+use Rattle.std.proofs.lemmas.Iterator.Consumers.{YieldsList-from_enumerate}
+use Rattle.std.proofs.lemmas.Iterator.Search.{all_from_yields_List}
+use Rattle.std.proofs.lemmas.List.FromFn.{length-enumerate_from}
+use Rattle.common.proofs.SearchLaws.{all-before, all-taken, get_or-numbered}
+use Rattle.payment.specs.declared.Payment.{Payment}
 use Rattle.right.specs.Right.{apart}
-use Rattle.common.specs.Places.{every}
-use Rattle.common.proofs.PlaceLaws.{every-fails, every_more}
-use Rattle.held.specs.Held.{limit}
+use Rattle.held.specs.Held.{at, limit, no_payment}
 use Rattle.checked.specs.Checked.{paired_at}
-use Rattle.std.proofs.Common.{rules}
 use Rattle.checked.proofs.held_pairs.Goals as goal
 
-pub loop-i-init : goal.loop-i-init
-unfolding every
-loop-i-init c = search rules
-
-pub returns-then-not-paired_at : goal.returns-then-not-paired_at
-returns-then-not-paired_at c =
+pub returns : goal.returns
+returns c =
     let a = c.args in
-    sym (every-fails limit (paired_at a.payments a.count apart) c.loop-i.i c.loop-i-test.true
-    (sym c.paired_at.ensures ∙ c.if-not-paired_at.true))
-
-pub loop-i-preserved : goal.loop-i-preserved
-loop-i-preserved c =
-    let head = c.loop-i in
-    let a = c.args in (
-      search rules,
-      every_more (paired_at a.payments a.count apart) head.i head.invariant.1
-          (sym c.paired_at.ensures ∙ c.if-not-paired_at.false),
-    )
+    let size : length a.payments ≡ limit = search rules in
+    let test = λ (p : ℕ × Payment). list_all (apart p.1) (take p.0 a.payments) in
+    all_from_yields_List test _ _ c.all.result c.all.ensures.ran
+    (YieldsList-from_take a.count (YieldsList-from_enumerate (YieldsList-from_slice a.payments cc) cc) cc)
+    (λ x b q k. search (rules, tests))
+    ∙ sym
+    (all-before (paired_at a.payments a.count apart) test (enumerate_from 0 a.payments) (0, no_payment) limit a.count
+    (length-enumerate_from 0 a.payments ∙ size)
+    (λ i h. let p = at a.payments i in
+    ap (λ b. leb a.count i || b)
+    (all-taken (λ j. apart p (at a.payments j)) (apart p) a.payments no_payment i (omega arith) (λ j l. refl)
+    ∙ ap test (sym (get_or-numbered a.payments i no_payment (omega arith))))))

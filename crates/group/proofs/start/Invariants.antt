@@ -6,4 +6,4 @@ use Rattle.group.proofs.start.Given as goal
 
 abbrev pub invariant-loop-i : goal.invariant-loop-i
 invariant-loop-i l =
-    (length l.ledgers ≡ 8) × ((k : ℕ) → k < l.i → get_or l.ledgers k (fresh 0 0) ≡ (set_up l.count (suc k)).state)
+    (length l.ledger-items ≡ 8) × ((k : ℕ) → k < l.i → get_or l.ledger-items k (fresh 0 0) ≡ (set_up l.count (suc k)).state)

@@ -1,12 +1,9 @@
 use mathlib.Core.Path.{sym}
-use Rattle.ledgers.proofs.LedgerLaws.{has-beyond, has-bit, has-none}
+use Rattle.ledgers.proofs.LedgerLaws.{has-at, has-nowhere}
 use Rattle.ledgers.proofs.among.Goals as goal
 
-pub returns-then-k-eq0 : goal.returns-then-k-eq0
-returns-then-k-eq0 c = sym (has-none _ _ c.if-k-eq0.true)
+pub returns-in-Some : goal.returns-in-Some
+returns-in-Some c = sym (has-at _ _ c.in-Some.i c.in-Some.ensures)
 
-pub returns-then-k-gt-MOST : goal.returns-then-k-gt-MOST
-returns-then-k-gt-MOST c = sym (has-beyond _ _ c.ranges.ledgers.fits c.if-k-gt-MOST.true)
-
-pub returns : goal.returns
-returns c = sym (has-bit _ _ c.if-k-eq0.false)
+pub returns-in-None : goal.returns-in-None
+returns-in-None c = sym (has-nowhere _ _ c.ranges.ledgers.fits c.in-None.ensures)

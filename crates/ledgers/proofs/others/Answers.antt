@@ -1,12 +1,9 @@
 use mathlib.Core.Path.{sym}
-use Rattle.ledgers.proofs.LedgerLaws.{without-beyond, without-bit, without-none}
+use Rattle.ledgers.proofs.LedgerLaws.{without-at, without-nowhere}
 use Rattle.ledgers.proofs.others.Goals as goal
 
-pub returns-then-k-eq0 : goal.returns-then-k-eq0
-returns-then-k-eq0 c = sym (without-none _ _ c.if-k-eq0.true)
+pub returns-in-Some : goal.returns-in-Some
+returns-in-Some c = without-at _ _ c.in-Some.i c.in-Some.ensures c.ranges.ledgers.fits
 
-pub returns-then-k-gt-MOST : goal.returns-then-k-gt-MOST
-returns-then-k-gt-MOST c = sym (without-beyond _ _ c.ranges.ledgers.fits c.if-k-gt-MOST.true)
-
-pub returns : goal.returns
-returns c = without-bit _ _ c.ranges.ledgers.fits c.if-k-eq0.false c.if-k-gt-MOST.false
+pub returns-in-None : goal.returns-in-None
+returns-in-None c = sym (without-nowhere _ _ c.ranges.ledgers.fits c.in-None.ensures)

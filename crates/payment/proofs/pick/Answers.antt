@@ -1,38 +1,29 @@
-use mathlib.Core.Path.{◌≡◌, ap, sym, ◌∙◌}
-use native.Mathlib.Omega.{arith}
-use Rattle.payment.specs.Payments.{greatest}
-use Rattle.payment.specs.Stamps.{below}
-use Rattle.payment.proofs.PaymentLaws.{greatest-keeps, greatest-next, greatest-unheard}
-use Rattle.std.proofs.Common.{rules}
+use Rattle.std.proofs.Common.{rules, tests}
+use mathlib.Core.Path.{◌≡◌, sym, ◌∙◌}
+use Rattle.std.proofs.lemmas.Iterator.{YieldsList-from_map}
+use Rattle.std.proofs.lemmas.Iterator.Consumers.{YieldsList-at, YieldsList-from_filter}
+use Rattle.common.proofs.SearchLaws.{folded}
+use Rattle.frame.specs.declared.LedgerNo.{LedgerNo}
+use Rattle.ledgers.proofs.AllLedgers.{yields-ledgers}
+use Rattle.ledgers.specs.Ledgers.{has}
+use Rattle.payment.specs.Payments.{no_stamp, proposal}
+use Rattle.payment.proofs.GreatestLaws.{greatest-listed}
+use Rattle.payment.proofs.StampLaws.{higher, higher-max, order}
+use Rattle.std.specs.Ordering.{ord_max}
 use Rattle.payment.proofs.pick.Goals as goal
-use Rattle.payment.proofs.pick.Goals.{then-among+then-is_below, then-among+else-is_below, else-among}
-
-pub loop-k-init : goal.loop-k-init
-unfolding greatest
-loop-k-init c = search rules
-
-pub loop-k-preserved : goal.loop-k-preserved
-loop-k-preserved c =
-    let times = c.args.times in
-    let heard = c.args.heard in
-    let k = c.loop-k.k in
-    let best = c.loop-k.best in
-    let so_far = c.loop-k.invariant.1 in
-    let is = c.among.ensures in (
-      search rules,
-      elim c.if-among.branch [
-        | then-among+then-is_below w ↦
-            w.best-is ∙ w.proposal-next.ensures
-            ∙ greatest-next times heard k best so_far (sym is ∙ w.if-among.true)
-            (ap (below best) (sym w.proposal-next.ensures) ∙ sym w.is_below.ensures ∙ w.if-is_below.true)
-        | then-among+else-is_below w ↦
-            w.best-is ∙ greatest-keeps times heard k best so_far
-            (ap (below best) (sym w.proposal-next.ensures) ∙ sym w.is_below.ensures ∙ w.if-is_below.false)
-        | else-among w ↦ w.best-is ∙ greatest-unheard times heard k best so_far (sym is ∙ w.if-among.false)
-      ],
-    )
 
 pub returns : goal.returns
 returns c =
-    let e : c.loop-k.k ≡ 8 = omega arith in
-    rw e at c.loop-k.invariant.1
+    let times = c.args.times in
+    let heard = c.args.heard in
+    let new = c.new.ensures in
+    folded higher _ no_stamp c.fold.result c.fold.ensures.ran
+    (YieldsList-from_map _ (λ (l : LedgerNo). proposal times l.0)
+    (YieldsList-at c.map-2.ensures.source
+    (YieldsList-from_filter _ (λ (l : LedgerNo). has heard l.0)
+    (YieldsList-at c.filter.ensures.source
+    (yields-ledgers _ c.map.ensures.source new.start new.end new.exhausted c.map.ensures.closure (λ x r q k. search (rules, tests))))
+    c.filter.ensures.closure (λ x r q k. search (rules, tests))))
+    c.map-2.ensures.closure (λ x r q k. search (rules, tests)))
+    (λ a x b q k. let max : (q ≡ record {}) × (b ≡ ord_max order a x) = search rules in (max.0, max.1 ∙ higher-max a x))
+    ∙ sym (greatest-listed times heard 8)

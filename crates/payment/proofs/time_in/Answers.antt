@@ -1,12 +1,13 @@
-use mathlib.Core.Path.{sym}
-use Rattle.payment.proofs.PaymentLaws.{time-at, time-beyond, time-none}
+use mathlib.Core.Path.{ap, sym, ◌∙◌}
+use lib.ListN.{get_or}
+use Rattle.payment.specs.Payments.{no_time}
+use Rattle.payment.proofs.PaymentLaws.{time-at, time-nowhere}
 use Rattle.payment.proofs.time_in.Goals as goal
 
-pub returns-then-k-eq0 : goal.returns-then-k-eq0
-returns-then-k-eq0 c = sym (time-none _ _ c.if-k-eq0.true)
+pub returns-in-Some : goal.returns-in-Some
+returns-in-Some c =
+    let times = c.args.times in
+    ap (λ i. get_or times i no_time) c.from.ensures ∙ sym (time-at times c.args.ledger.0 c.in-Some.i c.in-Some.ensures)
 
-pub returns-then-k-gt-MOST : goal.returns-then-k-gt-MOST
-returns-then-k-gt-MOST c = sym (time-beyond _ _ c.if-k-gt-MOST.true)
-
-pub returns : goal.returns
-returns c = sym (time-at _ _ c.if-k-eq0.false c.if-k-gt-MOST.false)
+pub returns-in-None : goal.returns-in-None
+returns-in-None c = sym (time-nowhere _ _ c.in-None.ensures)

@@ -1,13 +1,11 @@
-use mathlib.Core.Path.{◌≡◌, ap, ◌∙◌}
-use mathlib.Core.Bool.{◌&&◌}
-use Rattle.payment.specs.Payments.{is_proposed}
-use Rattle.payment.specs.Stamps.{below}
+use Rattle.std.proofs.Common.{rules}
 use Rattle.posting.specs.Posting.{holds_back}
 use Rattle.posting.proofs.holds_back.Goals as goal
 
-pub returns : goal.returns
+pub returns-then-p-eq-PROPOSED : goal.returns-then-p-eq-PROPOSED
 unfolding holds_back
-returns c =
-    let a = c.args in
-    let own-is-below : c.is_below.result ≡ below c.proposal.result a.stamp = c.is_below.ensures in
-    ap (λ b. is_proposed a.p && b) (own-is-below ∙ ap (λ s. below s a.stamp) c.proposal.ensures)
+returns-then-p-eq-PROPOSED c = search rules
+
+pub returns-else-p-eq-PROPOSED : goal.returns-else-p-eq-PROPOSED
+unfolding holds_back
+returns-else-p-eq-PROPOSED c = search rules

@@ -1,49 +1,46 @@
-use mathlib.Core.Path.{◌≡◌, refl, ap, ap₂, sym, ◌∙◌}
+use mathlib.Core.Path.{◌≡◌, refl, ap, sym, ◌∙◌}
 use mathlib.Core.Bool.{true}
 use native.Mathlib.Omega.{arith}
+use Rattle.std.specs.Prelude.{Some}
+use Rattle.std.proofs.Common.{rules, tests}
+use Rattle.common.specs.Order.{least}
 use Rattle.common.specs.Places.{any}
 use Rattle.common.proofs.PlaceLaws.{any-more}
 use Rattle.held.specs.Held.{at, limit}
-use Rattle.posting.proofs.FreeLaws.{free-held, free_other, free-so, next-keep, next-less, next-only, next-skip}
-use Rattle.posting.specs.Posting.{holds_back, is_free}
-use Rattle.payment.specs.Payments.{stamp_of}
-use Rattle.payment.specs.Stamps.{below}
-use Rattle.common.specs.Order.{least}
+use Rattle.posting.specs.Posting.{first_free, holds_back, is_free}
+use Rattle.posting.proofs.FreeLaws.{best-more, best-skip, free-held, free_other, free-so}
+use Rattle.posting.proofs.PostLaws.{first-within}
 use Rattle.posting.proofs.next.Goals as goal
-use Rattle.posting.proofs.next.Goals.{then-best-eq-HELD, else-best-eq-HELD+then-is_below, else-best-eq-HELD+else-is_below}
+use Rattle.posting.proofs.next.Goals.{then-is_none_or, else-is_none_or}
 
 pub candidates-init : goal.candidates-init
 unfolding least
-candidates-init c = (refl, λ n. absurd (n refl))
+candidates-init c = refl
 
 pub candidates-preserved-then-p-ne-STAMPED : goal.candidates-preserved-then-p-ne-STAMPED
 candidates-preserved-then-p-ne-STAMPED c =
     let ps = c.args.payments in
     let own = c.args.own.0 in
-    let i = c.candidates.i in (
-      c.candidates.invariant.0 ∙ sym (next-skip ps own i (free_other ps own i c.if-p-ne-STAMPED.true)),
-      c.candidates.invariant.1,
-    )
+    let i = c.candidates.i in
+    c.candidates.invariant ∙ sym (best-skip ps own i (free_other ps own i c.if-p-ne-STAMPED.true))
 
-pub loop-j-init : goal.loop-j-init
+pub loop-q-init : goal.loop-q-init
 unfolding any
-loop-j-init c = refl
+loop-q-init c = refl
 
 pub candidates-preserved-then-holds_back : goal.candidates-preserved-then-holds_back
 candidates-preserved-then-holds_back c =
     let ps = c.args.payments in
     let own = c.args.own.0 in
     let i = c.candidates.i in
-    let stamp = c.stamp-stamp in (
-      c.candidates.invariant.0
-          ∙ sym (next-skip ps own i (free-held ps own i c.loop-j.j stamp.result stamp.ensures c.loop-j-test.true
-          (sym c.holds_back.ensures ∙ c.if-holds_back.true))),
-      c.candidates.invariant.1,
-    )
+    let stamp = c.stamp-stamp in
+    c.candidates.invariant
+    ∙ sym (best-skip ps own i (free-held ps own i c.loop-q.q-index stamp.result stamp.ensures (omega arith)
+    (sym c.holds_back.ensures ∙ c.if-holds_back.true)))
 
-pub loop-j-preserved : goal.loop-j-preserved
-loop-j-preserved c =
-    any-more (λ k. holds_back c.args.own.0 c.stamp-stamp.result (at c.args.payments k)) c.loop-j.j c.loop-j.invariant
+pub loop-q-preserved : goal.loop-q-preserved
+loop-q-preserved c =
+    any-more (λ k. holds_back c.args.own.0 c.stamp-stamp.result (at c.args.payments k)) c.loop-q.q-index c.loop-q.invariant
     (sym c.holds_back.ensures ∙ c.if-holds_back.false)
 
 pub candidates-preserved : goal.candidates-preserved
@@ -52,30 +49,17 @@ candidates-preserved c =
     let own = c.args.own.0 in
     let i = c.candidates.i in
     let best = c.candidates.best in
-    let so_far = c.candidates.invariant.0 in
-    let kept = c.candidates.invariant.1 in
-    let here = c.stamp-stamp.ensures in
-    let done : c.loop-j.j ≡ limit = omega arith in
+    let stamp = c.stamp-stamp in
+    let done : c.loop-q.q-index ≡ limit = omega arith in
     let free : is_free ps own i ≡ true =
-    free-so ps own i c.stamp-stamp.result here c.if-p-ne-STAMPED.false (rw done at c.loop-j.invariant) in (
-      elim c.if-best-eq-HELD.branch [
-        | then-best-eq-HELD w ↦ w.best-is ∙ sym (next-only ps own i free (sym so_far ∙ w.if-best-eq-HELD.true))
-        | else-best-eq-HELD+then-is_below w ↦
-            w.best-is ∙ sym (next-less ps own i best free so_far w.if-best-eq-HELD.false
-            (ap₂ below (sym here) (sym (kept w.if-best-eq-HELD.false)) ∙ sym w.is_below.ensures ∙ w.if-is_below.true))
-        | else-best-eq-HELD+else-is_below w ↦
-            w.best-is ∙ sym (next-keep ps own i best free so_far w.if-best-eq-HELD.false
-            (ap₂ below (sym here) (sym (kept w.if-best-eq-HELD.false)) ∙ sym w.is_below.ensures ∙ w.if-is_below.false))
-      ],
-      elim c.if-best-eq-HELD.branch [
-        | then-best-eq-HELD w ↦ λ n. w.first-is ∙ here ∙ ap (λ m. stamp_of (at ps m)) (sym w.best-is)
-        | else-best-eq-HELD+then-is_below w ↦ λ n. w.first-is ∙ here ∙ ap (λ m. stamp_of (at ps m)) (sym w.best-is)
-        | else-best-eq-HELD+else-is_below w ↦
-            λ n. w.first-is ∙ kept w.if-best-eq-HELD.false ∙ ap (λ m. stamp_of (at ps m)) (sym w.best-is)
-      ],
-    )
+    free-so ps own i stamp.result stamp.ensures c.if-p-ne-STAMPED.false (rw done at c.loop-q.invariant) in
+    let more = best-more ps own i (omega arith) free best c.candidates.invariant c.is_none_or.result (search (rules, tests)) in
+    elim c.if-is_none_or.branch [
+      | then-is_none_or w ↦ w.best-is ∙ ap (λ s. Some (i, s)) stamp.ensures ∙ sym (rw w.if-is_none_or.true at more)
+      | else-is_none_or w ↦ w.best-is ∙ sym (rw w.if-is_none_or.false at more)
+    ]
 
-pub returns : goal.returns
-returns c =
-    let e : c.candidates.i ≡ limit = omega arith in
-    rw e at c.candidates.invariant.0
+pub returns-clause-within : goal.returns-clause-within
+returns-clause-within c =
+    let found : c.map.result ≡ first_free c.args.payments c.args.own.0 = search rules in
+    rw found (first-within c.args.payments c.args.own.0)

@@ -1,7 +1,6 @@
 use mathlib.Core.Path.{◌≡◌}
 use Prim.Native.Nat.{◌+◌, ◌≤◌}
 use Rattle.held.specs.Held.{limit}
-use Rattle.posting.proofs.PostLaws.{next_of}
 use Rattle.posting.specs.Posting.{after_posting, numbers}
 use lib.ListN.{length}
 use lib.Seq.{sets}
@@ -9,8 +8,7 @@ use Rattle.posting.proofs.post.Given as goal
 
 abbrev pub invariant-loop-i : goal.invariant-loop-i
 invariant-loop-i l =
-    (l.i ≡ next_of l.payments l.own.0)
-    × (length l.payments ≡ limit)
+    (length l.payments ≡ limit)
     × (length l.list ≡ length l.initial.list)
     × (limit ≤ length l.initial.list)
     × (l.n + length (numbers l.payments l.own.0) ≡ length (numbers l.initial.payments l.own.0))

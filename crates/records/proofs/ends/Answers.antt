@@ -1,33 +1,29 @@
 use mathlib.Core.Path.{ap, sym, ◌∙◌}
-use mathlib.Core.Bool.{not}
-use native.Mathlib.Omega.{arith}
-use Rattle.records.proofs.RecordLaws.{stops-cut, stops-empty, stops-set-up, stops-step, whole-second}
+use Rattle.std.specs.Prelude.{not}
+use Rattle.std.proofs.Common.{arith}
+use Rattle.records.proofs.RecordLaws.{stops-cut, stops-set-up, stops-short, stops-step, stops-unknown, total-none, total-of}
 use Rattle.records.proofs.ends.Goals as goal
 
-pub returns-then-bytes-eq0 : goal.returns-then-bytes-eq0
-returns-then-bytes-eq0 c =
-    let a = c.args in
-    sym (stops-empty a.count a.bytes.now c.if-bytes-eq0.true)
+pub returns-in_default : goal.returns-in_default
+returns-in_default c = sym (stops-short c.args.count c.args.bytes.now c.in_default.len_below)
 
-pub returns-then-size-bytes : goal.returns-then-size-bytes
-returns-then-size-bytes c =
-    let a = c.args in
-    sym (stops-cut a.count a.bytes.now c.total-size.result c.total-size.ensures c.if-size-bytes.true)
+pub returns-in_default-of : goal.returns-in_default-of
+returns-in_default-of c =
+    sym (stops-unknown c.args.count c.args.bytes.now (total-none _ (sym c.of.ensures ∙ c.in_default-of.is)))
 
-pub bounds-bytes-1 : goal.bounds-bytes-1
-bounds-bytes-1 c =
-    let a = c.args in
-    let two = whole-second a.count a.bytes.now c.total-size.result c.total-size.ensures c.if-size-bytes.false in
-    omega arith
+pub returns-then-bytes-total : goal.returns-then-bytes-total
+returns-then-bytes-total c =
+    let total = total-of _ c.in-Some.kind (sym c.of.ensures ∙ c.in-Some.is) in
+    sym (stops-cut c.args.count c.args.bytes.now (omega (arith, total, c.total.ensures, c.if-bytes-total.true)))
 
-pub returns-then-kind-eq-SET_UP : goal.returns-then-kind-eq-SET_UP
-returns-then-kind-eq-SET_UP c =
-    let a = c.args in
+pub returns-in-SetUp : goal.returns-in-SetUp
+returns-in-SetUp c =
     ap not c.is_group.ensures
-    ∙ sym (stops-set-up a.count a.bytes.now c.total-size.result c.total-size.ensures c.if-size-bytes.false c.if-kind-eq-SET_UP.true)
+    ∙ sym (stops-set-up c.args.count c.args.bytes.now c.in-Some.kind (sym c.of.ensures ∙ c.in-Some.is)
+    (omega (arith, c.total.ensures, c.if-bytes-total.false)) c.in-SetUp.is)
 
-pub returns : goal.returns
-returns c =
-    let a = c.args in
+pub returns-in-Multicast : goal.returns-in-Multicast
+returns-in-Multicast c =
     ap not c.is_ledger_of.ensures
-    ∙ sym (stops-step a.count a.bytes.now c.total-size.result c.total-size.ensures c.if-size-bytes.false c.if-kind-eq-SET_UP.false)
+    ∙ sym (stops-step c.args.count c.args.bytes.now c.in-Some.kind (sym c.of.ensures ∙ c.in-Some.is)
+    (omega (arith, c.total.ensures, c.if-bytes-total.false)) c.in-Multicast.is)

@@ -1,21 +1,10 @@
-use mathlib.Core.Path.{ap, sym}
-use Rattle.frame.specs.Digits.{sum}
-use Rattle.frame.specs.Frames.{body, known}
-use Rattle.records.specs.Records.{record_total}
-use Rattle.records.proofs.RecordLaws.{total-other}
+use mathlib.Core.Path.{ap, sym, ◌∙◌}
+use Rattle.std.specs.Prelude.{Some}
+use Rattle.records.proofs.RecordLaws.{size-none, size-of}
 use Rattle.records.proofs.total.Goals as goal
 
-pub returns-then-kind-eq-SET_UP : goal.returns-then-kind-eq-SET_UP
-unfolding record_total known body sum
-returns-then-kind-eq-SET_UP c = sym (ap record_total c.if-kind-eq-SET_UP.true)
-
-pub returns-then-kind-eq-MULTICAST_RECORD : goal.returns-then-kind-eq-MULTICAST_RECORD
-unfolding record_total known body sum
-returns-then-kind-eq-MULTICAST_RECORD c = sym (ap record_total c.if-kind-eq-MULTICAST_RECORD.true)
-
-pub returns-then-kind-eq-PROPOSE_RECORD : goal.returns-then-kind-eq-PROPOSE_RECORD
-unfolding record_total known body sum
-returns-then-kind-eq-PROPOSE_RECORD c = sym (ap record_total c.if-kind-eq-PROPOSE_RECORD.true)
+pub returns-in_err-of : goal.returns-in_err-of
+returns-in_err-of c = c.from_residual.ensures ∙ sym (size-none c.args.kind (sym c.of.ensures ∙ c.in_err-of.was))
 
 pub returns : goal.returns
-returns c = sym (total-other _ c.if-kind-eq-SET_UP.false c.if-kind-eq-MULTICAST_RECORD.false c.if-kind-eq-PROPOSE_RECORD.false)
+returns c = ap Some c.total.ensures ∙ sym (size-of c.args.kind c.in_ok-of.field-0 (sym c.of.ensures ∙ c.in_ok-of.was))

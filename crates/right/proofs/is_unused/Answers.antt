@@ -1,8 +1,10 @@
-use mathlib.Core.Path.{sym}
-use Rattle.right.proofs.RightLaws.{unused-right}
+use mathlib.Core.Path.{◌≡◌, ◌∙◌}
+use lib.ListN.{length}
+use Rattle.std.proofs.Common.{rules}
+use Rattle.right.proofs.RightLaws.{unused-equal}
 use Rattle.right.proofs.is_unused.Goals as goal
 
 pub returns : goal.returns
 returns c =
-    let args = c.args in
-    rw c.heard_right.ensures (sym (unused-right args.p))
+    let size : length c.args.p.times ≡ 8 = search rules in
+    rw c.new_payment.ensures at c.eq.ensures ∙ unused-equal c.args.p size

@@ -12,11 +12,11 @@ returns-then-self c =
 pub returns : goal.returns
 returns c =
     let d = c.args.self in
-    let turn = c.turn-turn in
+    let turn = c.turn-did in
     done-by-parts d c.args.bytes.now c.args.out.now (outcome turn.result turn.new.postings) _ _ _ _ _
     turn.ensures
-    (c.wrapping_add_u64.ensures.value ∙ ap (λ n. counted (d.offset + n)) c.size.ensures)
-    (c.wrapping_add_u64-2.ensures.value ∙ ap (λ n. counted (d.steps + n)) c.steps_in.ensures)
+    (ap (λ n. counted (d.offset + n)) c.size.ensures)
+    (ap (λ n. counted (d.steps + n)) c.steps_in.ensures)
     c.is_over.ensures
     c.line.ensures
     ∙ sym (read_done d c.args.bytes.now c.args.out.now c.if-self.false)

@@ -1,18 +1,21 @@
--- Whether a record waits: the three ways through the test are the three laws of the definition.
+-- Whether a record waits: the ways through the test are laws of the definition.
 -- Assumes nothing.
 use mathlib.Core.Path.{ap, sym, ◌∙◌}
-use Rattle.std.proofs.Common.{nat_lt, length}
-use Rattle.drill.specs.Stream.{waiting}
-use Rattle.drill.proofs.StreamLaws.{waits-empty, waits-not, waits-short}
+use mathlib.Core.Bool.{not, ◌&&◌}
+use Rattle.std.proofs.Common.{nat_lt, length, arith}
+use Rattle.records.proofs.RecordLaws.{size-missing, size-some}
+use Rattle.drill.proofs.StreamLaws.{waits-empty, waits-short, waits-unknown}
 use Rattle.drill.proofs.bytes.waits.Goals as goal
 
-pub returns-then-last : goal.returns-then-last
-returns-then-last c = sym (ap (λ l. waiting l c.args.bytes.now) c.if-last.true ∙ waits-not _)
+pub returns-in_default : goal.returns-in_default
+returns-in_default c = sym (waits-empty c.args.last c.args.bytes.now (omega (arith, c.in_default.len_below)))
 
-pub returns-then-bytes-eq0 : goal.returns-then-bytes-eq0
-returns-then-bytes-eq0 c = sym (ap (λ l. waiting l c.args.bytes.now) c.if-last.false ∙ waits-empty _ c.if-bytes-eq0.true)
+pub returns-in_default-total : goal.returns-in_default-total
+returns-in_default-total c =
+    sym (waits-unknown c.args.last c.args.bytes.now (λ z. omega (arith, c.in-len1-up.len_at_least))
+    (size-missing _ (sym c.total.ensures ∙ c.in_default-total.is)))
 
 pub returns : goal.returns
 returns c =
-    ap (λ n. nat_lt (length c.args.bytes.now) n) c.total.ensures
-    ∙ sym (ap (λ l. waiting l c.args.bytes.now) c.if-last.false ∙ waits-short c.args.bytes.now c.if-bytes-eq0.false)
+    ap (λ n. not c.args.last && nat_lt (length c.args.bytes.now) n) (sym (size-some _ c.in-Some.size (sym c.total.ensures ∙ c.in-Some.is)))
+    ∙ sym (waits-short c.args.last c.args.bytes.now (λ z. omega (arith, c.in-len1-up.len_at_least)))

@@ -1,16 +1,18 @@
-use Prim.Native.Nat.{ℕ, ◌-◌, ◌≤◌}
+-- A record that does not end the run: its kind is known, it is whole, and a step has a ledger.
+use Prim.Native.Nat.{ℕ, ◌≤◌}
 use mathlib.Core.List.{List}
 use mathlib.Core.Bool.{false}
-use mathlib.Core.Path.{◌≡◌, refl, ap, sym, ◌∙◌}
+use mathlib.Core.Path.{◌≡◌, ap, sym, ◌∙◌}
 use native.Mathlib.Omega.{arith}
 use lib.ListN.{length}
-use lib.Seq.{length-take-le}
-use Rattle.frame.specs.Frames.{kind_in}
-use Rattle.records.specs.Records.{record_total, second_in, stops}
+use Rattle.frame.specs.Digits.{sum}
+use Rattle.records.specs.Records.{second_in, stops}
 use Rattle.group.specs.Groups.{stepped}
-use Rattle.records.specs.declared.Did.TheVariants.{SetUp}
-use Rattle.records.proofs.RecordLaws.{frame_made, goes_some, goes-target, goes-whole, total-most}
-use Rattle.group.proofs.GroupLaws.{turn-starts, turn-steps, turn-stops}
+use Rattle.std.specs.Prelude.{Some}
+use Rattle.records.specs.declared.Did.TheVariants.{SetUp as Set}
+use Rattle.records.specs.declared.Kind.TheVariants.{Multicast, Propose}
+use Rattle.records.proofs.RecordLaws.{goes-known, goes_some, goes-whole, total-none}
+use Rattle.group.proofs.GroupLaws.{all-there, target-there, turn-multicast, turn-propose, turn-set-up, turn-stops}
 use Rattle.group.proofs.Group.turn.Goals as goal
 
 pub returns-then-ends : goal.returns-then-ends
@@ -18,65 +20,77 @@ returns-then-ends c =
     let a = c.args in
     sym (turn-stops a.self a.bytes.now a.postings.now (sym c.ends.ensures ∙ c.if-ends.true))
 
-pub bounds-bytes-0 : goal.bounds-bytes-0
-bounds-bytes-0 c =
-    let a = c.args in
-    let go = sym c.ends.ensures ∙ c.if-ends.false in
-    let two = goes_some a.self.count a.bytes.now go in
-    let all = goes-whole a.self.count a.bytes.now go in
+-- it has two bytes
+two : (n : ℕ) (bytes : List ℕ) → stops n bytes ≡ false → 2 ≤ length bytes
+two n bytes go =
+    let some = goes_some n bytes go in
+    let all = goes-whole n bytes go in
     omega arith
+
+pub bounds-bytes-0 : goal.bounds-bytes-0
+bounds-bytes-0 c = let h = two _ _ (sym c.ends.ensures ∙ c.if-ends.false) in omega arith
 
 pub bounds-bytes-1 : goal.bounds-bytes-1
-bounds-bytes-1 c =
+bounds-bytes-1 c = let h = two _ _ (sym c.ends.ensures ∙ c.if-ends.false) in omega arith
+
+pub unreachable-requires : goal.unreachable-requires
+unreachable-requires c =
+    goes-known _ _ (sym c.ends.ensures ∙ c.if-ends.false) (total-none _ (sym c.of.ensures ∙ c.in-None.is))
+
+pub returns-in-Some-SetUp : goal.returns-in-Some-SetUp
+returns-in-Some-SetUp c =
     let a = c.args in
     let go = sym c.ends.ensures ∙ c.if-ends.false in
-    let two = goes_some a.self.count a.bytes.now go in
-    let all = goes-whole a.self.count a.bytes.now go in
-    omega arith
+    let is = sym c.of.ensures ∙ c.in-Some-SetUp.is ∙ ap Some c.in-Some-SetUp.field-0-is in
+    ap (λ g. record { group = g; did = Set (second_in a.bytes.now); list = a.postings.now }) c.start.ensures
+    ∙ sym (turn-set-up a.self a.bytes.now a.postings.now go is)
 
-pub returns-then-kind-eq-SET_UP : goal.returns-then-kind-eq-SET_UP
-returns-then-kind-eq-SET_UP c =
-    let a = c.args in
-    ap (λ g. record { group = g; did = SetUp (second_in a.bytes.now); list = a.postings.now }) c.start.ensures
-    ∙ sym (turn-starts a.self a.bytes.now a.postings.now (sym c.ends.ensures ∙ c.if-ends.false) c.if-kind-eq-SET_UP.true)
-
--- how long a step record is
-long : (n : ℕ) (bytes : List ℕ) (size : ℕ) → stops n bytes ≡ false → size ≡ record_total (kind_in bytes)
-    → (2 ≤ size) × (size ≤ 10) × (size ≤ length bytes)
-long n bytes size go total =
-    let two = goes_some n bytes go in
-    let all = goes-whole n bytes go in
-    let most = total-most (kind_in bytes) in
-    (omega (arith, total), omega (arith, total), omega (arith, total))
-
-pub overflow_sub-size : goal.overflow_sub-size
-overflow_sub-size c = let l = long _ _ _ (sym c.ends.ensures ∙ c.if-ends.false) c.total-size.ensures in omega (arith, l.0)
-
-pub overflow_sub-size-2 : goal.overflow_sub-size-2
-overflow_sub-size-2 c = let l = long _ _ _ (sym c.ends.ensures ∙ c.if-ends.false) c.total-size.ensures in omega (arith, l.0)
-
-pub frame_in-frame-requires : goal.frame_in-frame-requires
-frame_in-frame-requires c = let l = long _ _ _ (sym c.ends.ensures ∙ c.if-ends.false) c.total-size.ensures in (omega (arith, l.1), omega (arith, l.0, l.2))
-
-pub slice_bounds-frame-end : goal.slice_bounds-frame-end
-slice_bounds-frame-end c = let l = long _ _ _ (sym c.ends.ensures ∙ c.if-ends.false) c.total-size.ensures in omega (arith, l.1)
-
-pub slice_bounds-step-end : goal.slice_bounds-step-end
-slice_bounds-step-end c = let l = long _ _ _ (sym c.ends.ensures ∙ c.if-ends.false) c.total-size.ensures in sym (length-take-le _ _ (omega (arith, l.1)))
+pub frame_in-requires : goal.frame_in-requires
+unfolding sum
+frame_in-requires c =
+    let go = sym c.ends.ensures ∙ c.if-ends.false in
+    let is = sym c.of.ensures ∙ c.in-Some-Multicast.is ∙ ap Some c.in-Some-Multicast.field-0-is in
+    let all = all-there c.args.self c.args.bytes.now c.args.postings.now go Multicast is in
+    let some : 1 ≤ 6 = omega arith in
+    (omega arith, (some, omega arith))
 
 pub step-requires : goal.step-requires
 step-requires c =
-    let a = c.args in
-    goes-target a.self.count a.bytes.now (sym c.ends.ensures ∙ c.if-ends.false) c.if-kind-eq-SET_UP.false
+    let go = sym c.ends.ensures ∙ c.if-ends.false in
+    let is = sym c.of.ensures ∙ c.in-Some-Multicast.is ∙ ap Some c.in-Some-Multicast.field-0-is in
+    target-there c.args.self c.args.bytes.now c.args.postings.now go Multicast is (λ z. omega arith)
 
-pub returns : goal.returns
-returns c =
+pub returns-in-Some-Multicast : goal.returns-in-Some-Multicast
+unfolding sum
+returns-in-Some-Multicast c =
     let a = c.args in
     let go = sym c.ends.ensures ∙ c.if-ends.false in
-    let l = long _ _ _ (sym c.ends.ensures ∙ c.if-ends.false) c.total-size.ensures in
-    let t = c.total-size.result in
-    let made = frame_made a.self.count a.bytes.now c.frame_in-frame.result go c.if-kind-eq-SET_UP.false c.frame_kind.result (t - 1)
-    c.frame_kind.ensures (omega (arith, l.0, c.total-size.ensures)) (t - 1 - 1) (omega (arith, l.0)) c.frame_in-frame.ensures in
+    let is = sym c.of.ensures ∙ c.in-Some-Multicast.is ∙ ap Some c.in-Some-Multicast.field-0-is in
     c.step.ensures
-    ∙ ap (λ f. stepped a.self (second_in a.bytes.now) f a.postings.now) made
-    ∙ sym (turn-steps a.self a.bytes.now a.postings.now _ go c.if-kind-eq-SET_UP.false refl)
+    ∙ ap (λ f. stepped a.self (second_in a.bytes.now) f a.postings.now) c.frame_in.ensures
+    ∙ sym (turn-multicast a.self a.bytes.now a.postings.now go is)
+
+pub frame_in-requires-in-Some-Propose : goal.frame_in-requires-in-Some-Propose
+unfolding sum
+frame_in-requires-in-Some-Propose c =
+    let go = sym c.ends.ensures ∙ c.if-ends.false in
+    let is = sym c.of.ensures ∙ c.in-Some-Propose.is ∙ ap Some c.in-Some-Propose.field-0-is in
+    let all = all-there c.args.self c.args.bytes.now c.args.postings.now go Propose is in
+    let some : 1 ≤ 9 = omega arith in
+    (omega arith, (some, omega arith))
+
+pub step-requires-in-Some-Propose : goal.step-requires-in-Some-Propose
+step-requires-in-Some-Propose c =
+    let go = sym c.ends.ensures ∙ c.if-ends.false in
+    let is = sym c.of.ensures ∙ c.in-Some-Propose.is ∙ ap Some c.in-Some-Propose.field-0-is in
+    target-there c.args.self c.args.bytes.now c.args.postings.now go Propose is (λ z. omega arith)
+
+pub returns-in-Some-Propose : goal.returns-in-Some-Propose
+unfolding sum
+returns-in-Some-Propose c =
+    let a = c.args in
+    let go = sym c.ends.ensures ∙ c.if-ends.false in
+    let is = sym c.of.ensures ∙ c.in-Some-Propose.is ∙ ap Some c.in-Some-Propose.field-0-is in
+    c.step-in-Some-Propose.ensures
+    ∙ ap (λ f. stepped a.self (second_in a.bytes.now) f a.postings.now) c.frame_in-in-Some-Propose.ensures
+    ∙ sym (turn-propose a.self a.bytes.now a.postings.now go is)

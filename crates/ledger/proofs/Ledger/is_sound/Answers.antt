@@ -1,4 +1,4 @@
-use mathlib.Core.Path.{ap₂, ◌∙◌}
+use mathlib.Core.Path.{◌∙◌}
 use mathlib.Core.Bool.{◌&&◌}
 use lib.Dec.{leb}
 use Rattle.payment.specs.Payments.{last_time}
@@ -9,6 +9,6 @@ use Rattle.ledger.proofs.Ledger.is_sound.Goals as goal
 pub returns : goal.returns
 returns c =
     let l = c.args.self in
-    ap₂ (λ a b. (a && (leb l.clock.0 last_time && leb l.count limit)) && b) c.is_ledger_of.ensures
-    (ap₂ ◌&&◌ c.held_right-right.ensures c.none_free.ensures)
+    (λ k. (c.is_ledger_of.ensures k && (leb l.clock.0 last_time && leb (c.from.ensures k) limit))
+    && (c.held_right-right.ensures k && c.none_free.ensures k))
     ∙ sound-checked l

@@ -22,24 +22,30 @@ returns-then-outgoing-postings c =
     ∙ sym (step-short a.self a.frame.now a.outgoing.now a.postings.now
     (sym c.is_sound.ensures ∙ c.if-not-is_sound.false) c.if-outgoing-postings.true)
 
-pub returns-then-judged-ne0 : goal.returns-then-judged-ne0
-returns-then-judged-ne0 c =
+pub returns-in-Err : goal.returns-in-Err
+returns-in-Err c =
     let a = c.args in
-    ap (λ r. outcome r a.outgoing.now a.postings.now) c.refuse-then-judged-ne0.ensures
-    ∙ sym (step-refused a.self a.frame.now a.outgoing.now a.postings.now c.judge-judged.result c.judge-judged.ensures
-    (sym c.is_sound.ensures ∙ c.if-not-is_sound.false) c.if-outgoing-postings.false c.if-judged-ne0.true)
+    let judge = c.judge in
+    ap (λ r. outcome r a.outgoing.now a.postings.now) c.refuse-in-Err.ensures
+    ∙ sym (step-refused a.self a.frame.now a.outgoing.now a.postings.now judge.result judge.ensures
+    (sym c.is_sound.ensures ∙ c.if-not-is_sound.false) c.if-outgoing-postings.false c.in-Err.refused c.in-Err.is)
 
 pub take-requires : goal.take-requires
 take-requires c =
-    let a = c.args in (
-      may-take a.self a.frame.now a.outgoing.now a.postings.now c.judge-judged.result c.judge-judged.ensures
-          (sym c.is_sound.ensures ∙ c.if-not-is_sound.false) c.if-judged-ne0.false,
-      ltb-false _ _ (or_right (ltb (length a.outgoing.now) 9) (ltb (length a.postings.now) limit) c.if-outgoing-postings.false),
-    )
+    let a = c.args in
+    ltb-false _ _ (or_right (ltb (length a.outgoing.now) 9) (ltb (length a.postings.now) limit) c.if-outgoing-postings.false)
 
-pub returns : goal.returns
-returns c =
+pub invariant_of-take : goal.invariant_of-take
+invariant_of-take c =
+    let a = c.args in
+    record {
+      may = may-take a.self a.frame.now a.outgoing.now a.postings.now c.judge.result c.judge.ensures c.in-Ok.judged c.in-Ok.is
+          (sym c.is_sound.ensures ∙ c.if-not-is_sound.false);
+    }
+
+pub returns-in-Ok : goal.returns-in-Ok
+returns-in-Ok c =
     let a = c.args in
     c.take.ensures
-    ∙ sym (step-taken a.self a.frame.now a.outgoing.now a.postings.now c.judge-judged.result c.judge-judged.ensures
-    (sym c.is_sound.ensures ∙ c.if-not-is_sound.false) c.if-outgoing-postings.false c.if-judged-ne0.false)
+    ∙ sym (step-taken a.self a.frame.now a.outgoing.now a.postings.now c.judge.result c.judge.ensures c.in-Ok.judged c.in-Ok.is
+    (sym c.is_sound.ensures ∙ c.if-not-is_sound.false) c.if-outgoing-postings.false)
