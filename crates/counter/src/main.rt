@@ -50,6 +50,7 @@ fn last_time(rt: &impl Print) {
     let waiting = calls::propose(calls::fresh(), 5, 59999).step.state;
     let before = calls::multicast(waiting, 5, BOTH).step.state;
     let last = calls::multicast(before, 7, BOTH);
+    // No time would be printed as 0.
     let Time(time) = calls::own_time(last.outgoing).unwrap_or(Time(0));
     let _ = println!(rt; "K clock {} own time {time}", before.clock.0);
 }

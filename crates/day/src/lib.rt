@@ -26,6 +26,7 @@ pub struct Day {
 #[derive(Clone, Copy)]
 pub struct Done {
     pub day: Day,
+    // How many bytes stand at the front of the output, which is the caller's.
     pub written: usize,
 }
 

@@ -22,6 +22,7 @@ const BUFFER: usize = 65536;
 struct Pass {
     day: Day,
     read: usize,
+    // How many bytes stand at the front of the output, which is the caller's.
     printed: usize,
 }
 

@@ -12,7 +12,8 @@ use records::{Did, Kind};
 // The most ledgers of a group. A constant cannot call `From`.
 pub const LEDGERS: usize = ledgers::MOST as usize;
 
-// N, and the ledgers 1 to N at the first places; N is 0 before any set-up, so that no target is in the group then [D8].
+// N, and the ledgers 1 to N at the first places; N is 0 before any set-up, so that no target is in the group then [D8]. A group that is
+// handed in may have any N, and is answered.
 #[derive(Clone, Copy)]
 pub struct Group {
     pub count: u8,

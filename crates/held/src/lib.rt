@@ -17,7 +17,8 @@ pub fn find(payments: [Payment; HELD], number: PaymentNo) -> Option<usize>
     payments.iter().position(|p| p.number == number)
 }
 
-// Whether a ledger's time is held for another payment than that of a number. It looks at proposals alone: a stamp is one of them.
+// Whether a ledger's time is held for another payment than that of a number. It looks at proposals alone: a stamp is one of them. The
+// ledger and its time come apart, as a frame has them.
 pub fn held_for_another(
     payments: [Payment; HELD],
     number: PaymentNo,

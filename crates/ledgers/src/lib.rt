@@ -16,7 +16,8 @@ pub fn is_group(group: u8) -> bool
     (1..=MOST).contains(&group)
 }
 
-// Whether a number is that of a ledger of the group.
+// Whether a number is that of a ledger of the group. The group and the number come apart, here and below: the struct that has both stands
+// above, in `ledger` [X4].
 pub fn is_ledger_of(group: u8, ledger: LedgerNo) -> bool
     ensures { result ≡ is_ledger_of group ledger.0 }
 {

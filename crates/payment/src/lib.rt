@@ -32,7 +32,7 @@ pub struct Payment {
     pub number: PaymentNo,
     // [N6] One bit for each ledger.
     pub destinations: u8,
-    // The destinations whose time is kept, with the same bits.
+    // The destinations whose time is kept, with the same bits. A state that is handed in may have any bits here [A1].
     pub heard: u8,
     // Ledger k's time stands at place k - 1; 0 where it was not heard, as in a place that is not in use [S4, K6].
     pub times: [Time; 8],

@@ -176,6 +176,7 @@ fn check(
 {
     let frame = judged.frame;
     let p = judged.payment;
+    // By the number inside, as in `conflict`: the edit `number_one_refused` turns this test.
     if payment(frame).0 == 0 {
         return Err(Refusal::PaymentZero);
     }
