@@ -10,7 +10,7 @@ use lib.ListN.{drop, length}
 use borrow.Author.Tests.{eq-eqb, eqb-false, leb-true, ltb-true, ne_eqb}
 use Rattle.common.proofs.TestLaws.{and-go, and_left, and_right, split}
 use Rattle.frame.specs.Digits.{sum}
-use Rattle.frame.specs.Frames.{body, frame_values, not_a_frame, values_of}
+use Rattle.frame.specs.Frames.{body, frame_values, not_a_frame}
 use Rattle.ledgers.specs.Ledgers.{is_ledger_of}
 use Rattle.payment.specs.Payments.{last_time}
 use Rattle.held.specs.Held.{found_at, limit}

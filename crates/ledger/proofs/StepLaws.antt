@@ -8,8 +8,10 @@ use borrow.Author.Tests.{eq-eqb, ne_eqb}
 use Rattle.std.specs.Prelude.{◌+◌, ◌<◌, Some, None, unwrap_or}
 use Rattle.std.specs.Option.{is_some}
 use Rattle.payment.specs.Payments.{in_phase, stamp_of, stamped}
+use Rattle.frame.specs.declared.Time.{Time}
+use Rattle.payment.specs.declared.Payment.{Payment}
 use Rattle.held.specs.Held.{at, holds, limit}
-use Rattle.ledger.specs.Step.{count_for, place_for, stamp_rule}
+use Rattle.ledger.specs.Step.{count_for, keeping, kept_at, place_for, stamp_rule}
 use Rattle.refusals.specs.Refusals.{found, received}
 use Rattle.refusals.specs.declared.Judged.{Judged}
 use Rattle.ledger.specs.declared.rules.Accepted.{Accepted}
@@ -53,7 +55,7 @@ module _ (a : Accepted) where
   pub room-taken : unwrap_or j.place l.count < limit
   room-taken = subst (λ n. n < limit) (sym place-taken) a.may.room
 
-  pub count-taken : cond (is_some j.place) l.count (l.count + 1) ≡ count_for l (received j.frame)
+  count-taken : cond (is_some j.place) l.count (l.count + 1) ≡ count_for l (received j.frame)
   count-taken =
       ap (λ p. cond (is_some p) l.count (l.count + 1)) a.may.place
       ∙ at-some (holds l.payments (received j.frame).payment.0) (found l.payments (received j.frame))
@@ -61,3 +63,15 @@ module _ (a : Accepted) where
       at-some : (b : Bool) (i : ℕ) → cond (is_some (cond b (Some i) None)) l.count (l.count + 1) ≡ cond b l.count (l.count + 1)
       at-some true i = refl
       at-some false i = refl
+
+  -- so rules 1 and 2 keep it, each with its clock
+  pub kept-taken : {clock new : Time} {p q : Payment} → clock ≡ new → p ≡ q
+      → kept_at (record { group = l.group; own = l.own; clock = clock; count = l.count; payments = l.payments }) j.place p
+      ≡ keeping l (received j.frame) new q
+  kept-taken c e = λ k. record {
+    group = l.group;
+    own = l.own;
+    clock = c k;
+    count = count-taken k;
+    payments = set l.payments (place-taken k) (e k);
+  }

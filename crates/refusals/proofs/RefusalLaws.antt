@@ -8,7 +8,9 @@ use lib.Dec.{eqb}
 use borrow.Author.Tests.{eq-eqb}
 use Rattle.common.proofs.TestLaws.{and-go, and-stop, split}
 use Rattle.ledgers.proofs.LedgerLaws.{has-empty}
-use Rattle.frame.specs.Frames.{frame_values, not_a_frame, values_of}
+use Rattle.frame.specs.Frames.{frame_values, not_a_frame, reading, told as read-told}
+use Rattle.frame.specs.declared.NotAFrame.{NotAFrame as FrameNone}
+use Rattle.frame.proofs.FrameLaws.{told-accepted}
 use Rattle.payment.specs.Payments.{has_proposal, heard_from, new_payment, time_from}
 use Rattle.frame.specs.declared.Frame.TheVariants.{Propose}
 use Rattle.frame.specs.declared.LedgerNo.{LedgerNo}
@@ -21,8 +23,8 @@ use Rattle.refusals.specs.declared.Refusal.TheVariants.{Unsound, TooShort, NotAF
 use Rattle.refusals.specs.declared.Refusal.TheVariants.{Conflict, Repeat, Full, ClockAtEnd}
 use Rattle.payment.specs.declared.Payment.{Payment}
 use Rattle.held.specs.Held.{found_at, held_for_another}
-use Rattle.std.specs.Prelude.{Some, None, Result}
-use Rattle.refusals.specs.Refusals.{Judgement, Known, another_time, answer_no, conflict, first_given, frame_rows, held_one, incoming, is_held, is_propose}
+use Rattle.std.specs.Prelude.{Some, None, Result, Ok}
+use Rattle.refusals.specs.Refusals.{Judgement, Known, another_time, answer_no, conflict, first_given, held_one, incoming, is_held, is_propose}
 use Rattle.refusals.specs.Refusals.{judge, known_in, known_of, looked_up, no_of, other_destinations, payment_in, received, repeat, repeats, rows}
 use Rattle.refusals.specs.Refusals.{Incoming}
 
@@ -92,15 +94,18 @@ not_zero ClockAtEnd = refl
 
 -- judging bytes that hold a frame, by what checking it answers
 module _ (group own clock count : ℕ) (payments : List Payment) (bytes : List ℕ) (frame : Frame) (j : Judged) (answer : Result (Unit {0}) Refusal)
-    (some : not_a_frame bytes ≡ false) (is : frame_values bytes ≡ values_of frame) (look : j ≡ looked_up payments frame)
+    {r : Result Frame FrameNone} (read : read-told r ≡ reading bytes) (is-frame : r ≡ Ok frame) (look : j ≡ looked_up payments frame)
     (checked : answer_no answer ≡ first_given (rows group own clock count payments (received j.frame))) where
-  pub judge-frame : ◌≡◌ {A = Judgement} record { answer = answer_no answer; known = Some (known_of j) } (judge group own clock count payments bytes)
-  judge-frame =
+  pub judge-read : (given : Result (Unit {0}) Refusal) → answer ≡ given
+      → ◌≡◌ {A = Judgement} record { answer = answer_no given; known = Some (known_of j) } (judge group own clock count payments bytes)
+  judge-read given e =
+      let some = told-accepted bytes (read-told r) read (ap (λ x. (read-told x).answer) is-frame) in
+      let is = some.1 ∙ ap (λ x. (read-told x).frame) is-frame in
       (λ k. record {
-        answer = (checked
+        answer = (sym (ap answer_no e) ∙ checked
             ∙ ap (λ f. first_given (rows group own clock count payments f)) (ap (λ k. received k.frame) look ∙ ap incoming (sym is))) k;
         known = Some ((ap known_of look
             ∙ ap {B = Known} (λ v. record { frame = v; place = found_at payments (incoming v).payment.0; payment = payment_in payments (incoming v) })
             (sym is)) k);
       })
-      ∙ sym (judge-some group own clock count payments bytes some)
+      ∙ sym (judge-some group own clock count payments bytes some.0)

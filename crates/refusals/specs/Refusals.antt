@@ -169,7 +169,7 @@ payment_in payments f = cond (is_held payments f) (held_one payments f) (new_pay
 abbrev pub place_in : ℕ → List Payment → Incoming → ℕ
 place_in count payments f = cond (is_held payments f) (found payments f) count
 
--- a frame with its payment: the held one at its place, or a new one
+-- for the code: a frame with its payment, the held one at its place, or a new one
 abbrev pub looked_up : List Payment → Frame → Judged
 looked_up payments f =
     record { frame = f; place = found_at payments (received f).payment.0; payment = payment_in payments (received f) }
@@ -185,6 +185,7 @@ pub record Judgement : Type 0 where
   pub answer : ℕ
   pub known : Option Known
 
+-- [P5] what the code knows of a frame, by the numbers of the rules
 abbrev pub known_of : Judged → Known
 known_of j = record { frame = values_of j.frame; place = j.place; payment = j.payment }
 

@@ -1,8 +1,7 @@
-use mathlib.Core.Path.{◌∙◌}
-use lib.ListN.{set}
+use mathlib.Core.Path.{ap, ◌∙◌}
 use Rattle.payment.specs.Payments.{hear, in_phase}
 use Rattle.ledger.specs.Step.{multicast_rule}
-use Rattle.ledger.proofs.StepLaws.{count-taken, place-taken, room-taken}
+use Rattle.ledger.proofs.StepLaws.{kept-taken, room-taken}
 use Rattle.ledger.proofs.rules.Accepted.multicast.Goals as goal
 
 pub keep-requires : goal.keep-requires
@@ -12,13 +11,6 @@ pub returns : goal.returns
 unfolding multicast_rule
 returns c =
     let a = c.args.self in
-    let l = a.ledger in
     let clock = c.own_time-ledger.ensures in
-    c.keep.ensures
-    ∙ (λ k. record {
-      group = l.group;
-      own = l.own;
-      clock = clock k;
-      count = count-taken a k;
-      payments = set l.payments (place-taken a k) (in_phase 1 ((c.hear-heard.ensures ∙ (λ i. hear (a.may.payment i) l.own.0 (clock i))) k));
-    })
+    let heard = c.hear-heard.ensures ∙ (λ k. hear (a.may.payment k) a.ledger.own.0 (clock k)) in
+    c.keep.ensures ∙ kept-taken a clock (ap (in_phase 1) heard)

@@ -1,8 +1,7 @@
-use mathlib.Core.Path.{sym, ◌∙◌}
-use lib.ListN.{set}
+use mathlib.Core.Path.{refl, sym, ◌∙◌}
 use Rattle.payment.specs.Payments.{hear}
 use Rattle.ledger.specs.Step.{propose_rule}
-use Rattle.ledger.proofs.StepLaws.{count-taken, place-taken, room-taken}
+use Rattle.ledger.proofs.StepLaws.{kept-taken, room-taken}
 use Rattle.ledger.proofs.rules.Accepted.propose.Goals as goal
 
 pub keep-requires : goal.keep-requires
@@ -12,13 +11,5 @@ pub returns : goal.returns
 unfolding propose_rule
 returns c =
     let a = c.args.self in
-    let l = a.ledger in
-    let heard = c.hear.ensures ∙ (λ k. hear (a.may.payment k) (sym c.requires.0 k).0 (sym c.requires.1 k)) in
     c.keep.ensures
-    ∙ (λ k. record {
-      group = l.group;
-      own = l.own;
-      clock = l.clock;
-      count = count-taken a k;
-      payments = set l.payments (place-taken a k) (heard k);
-    })
+    ∙ kept-taken a refl (c.hear.ensures ∙ (λ k. hear (a.may.payment k) (sym c.requires.0 k).0 (sym c.requires.1 k)))
