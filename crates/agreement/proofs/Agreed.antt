@@ -13,7 +13,7 @@ use Rattle.payment.specs.Payments.{last_time}
 use Rattle.payment.specs.declared.Payment.{Payment}
 use Rattle.ledger.specs.State.{Told, fresh, set_up}
 use Rattle.ledger.specs.Step.{recipients_of}
-use Rattle.refusals.specs.Refusals.{Incoming}
+use Rattle.refusals.specs.declared.Incoming.{Incoming}
 use Rattle.ledger.specs.declared.Ledger.{Ledger}
 use Rattle.soundness.proofs.Fresh.{fresh-shaped, fresh-sound}
 use Rattle.soundness.proofs.Kept.{brings, heard_clock, speaker, spoken_time}

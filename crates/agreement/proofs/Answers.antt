@@ -20,7 +20,7 @@ use Rattle.frame.specs.Frames.{body}
 use Rattle.refusals.specs.Refusals.{Row, another_time, bad_source, bad_time, clock_at_end, first_given, held_one}
 use Rattle.refusals.specs.Refusals.{is_held, is_propose, no_room, other_destinations, repeat, row}
 use Rattle.ledger.specs.Table.{refusals}
-use Rattle.refusals.specs.Refusals.{Incoming}
+use Rattle.refusals.specs.declared.Incoming.{Incoming}
 use Rattle.ledger.specs.declared.Ledger.{Ledger}
 use Rattle.agreement.specs.Run.{Call, Entry, Lawful, May, World}
 use Rattle.agreement.specs.Claims.{Holds}

@@ -13,7 +13,7 @@ use Rattle.ledger.specs.Sound.{sound}
 use Rattle.ledger.specs.Table.{answer_to}
 use Rattle.refusals.specs.Refusals.{incoming}
 use Rattle.ledger.specs.Step.{step}
-use Rattle.refusals.specs.Refusals.{Incoming}
+use Rattle.refusals.specs.declared.Incoming.{Incoming}
 use Rattle.ledger.specs.declared.Ledger.{Ledger}
 use Rattle.ledger.proofs.JudgeLaws.{place-range}
 use Rattle.soundness.specs.Shaped.{Shaped}

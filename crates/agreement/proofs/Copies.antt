@@ -16,7 +16,7 @@ use Rattle.frame.proofs.RoundTrip.{bytes_read}
 use Rattle.ledgers.specs.Ledgers.{has, most_ledgers, without}
 use Rattle.payment.specs.Payments.{last_time}
 use Rattle.refusals.specs.Refusals.{incoming}
-use Rattle.refusals.specs.Refusals.{Incoming}
+use Rattle.refusals.specs.declared.Incoming.{Incoming}
 use Rattle.common.specs.Places.{In}
 use Rattle.agreement.specs.Run.{Call, Written, Entry, Lawful, May, OfDesk, OfLedger, World, multicast_copy}
 use Rattle.agreement.proofs.Hearing.{Heard}

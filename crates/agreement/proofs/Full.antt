@@ -22,7 +22,7 @@ use Rattle.right.proofs.RightLaws.{all-stamped, heard-destination}
 use Rattle.held.specs.Held.{at, limit}
 use Rattle.posting.proofs.FreeLaws.{back-other, free-none, free-so}
 use Rattle.checked.proofs.ReflectLaws.{each_at, unused-at}
-use Rattle.refusals.specs.Refusals.{Incoming}
+use Rattle.refusals.specs.declared.Incoming.{Incoming}
 use Rattle.ledger.specs.declared.Ledger.{Ledger}
 use Rattle.ledger.proofs.SoundLaws.{clauses}
 use Rattle.soundness.proofs.Replacing.{unused-phase}

@@ -14,7 +14,7 @@ use Rattle.payment.specs.declared.Payment.{Payment}
 use Rattle.held.specs.Held.{at, limit}
 use Rattle.checked.proofs.ReflectLaws.{each_at}
 use Rattle.refusals.specs.Refusals.{held_one, is_held, is_propose, repeat}
-use Rattle.refusals.specs.Refusals.{Incoming}
+use Rattle.refusals.specs.declared.Incoming.{Incoming}
 use Rattle.ledger.specs.declared.Ledger.{Ledger}
 use Rattle.ledger.proofs.SoundLaws.{clauses}
 use Rattle.soundness.proofs.Kept.{spoken_time}

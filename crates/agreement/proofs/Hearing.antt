@@ -18,7 +18,7 @@ use Rattle.ledger.specs.Sound.{sound}
 use Rattle.refusals.specs.Refusals.{another_time, first_given, held_one, is_held, is_propose, other_destinations}
 use Rattle.ledger.specs.Table.{value_rows}
 use Rattle.ledger.specs.Step.{count_for, payment_for, place_for}
-use Rattle.refusals.specs.Refusals.{Incoming}
+use Rattle.refusals.specs.declared.Incoming.{Incoming}
 use Rattle.ledger.specs.declared.Ledger.{Ledger}
 use Rattle.ledger.proofs.JudgeLaws.{place-range}
 use Rattle.ledger.proofs.SoundLaws.{clauses}

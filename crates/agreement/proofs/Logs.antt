@@ -20,7 +20,7 @@ use Rattle.refusals.specs.Refusals.{first_given}
 use Rattle.ledger.specs.Table.{value_rows}
 use Rattle.ledger.specs.Sound.{sound}
 use Rattle.ledger.specs.Step.{after_stamping, place_for}
-use Rattle.refusals.specs.Refusals.{Incoming}
+use Rattle.refusals.specs.declared.Incoming.{Incoming}
 use Rattle.ledger.specs.declared.Ledger.{Ledger}
 use Rattle.ledger.proofs.SoundLaws.{Almost, clauses}
 use Rattle.soundness.specs.Shaped.{Shaped}

@@ -18,7 +18,7 @@ use Rattle.payment.specs.declared.Payment.{Payment}
 use Rattle.held.specs.Held.{at, limit, no_payment}
 use Rattle.posting.specs.Posting.{after_posting, is_free}
 use Rattle.ledger.specs.Step.{after_stamping, count_for, place_for, post_rule, taken}
-use Rattle.refusals.specs.Refusals.{Incoming}
+use Rattle.refusals.specs.declared.Incoming.{Incoming}
 use Rattle.ledger.specs.declared.Ledger.{Ledger}
 use Rattle.soundness.specs.Shaped.{Shaped}
 use Rattle.soundness.proofs.Kept.{heard_clock, heard_of-open, heard_of-stamped, heard_payment, posted-ledger}

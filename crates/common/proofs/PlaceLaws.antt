@@ -68,6 +68,13 @@ any_place (suc n) f e =
     (or_cases (f n) (any n f) e)
 
 -- the laws of a loop that tests one place after the other
+pub every_more : (f : ℕ → Bool) (k : ℕ) → every k f ≡ true → f k ≡ true → every (k + 1) f ≡ true
+unfolding every
+every_more f k h e = ap (λ (n : ℕ). every n f) (add-one k) ∙ and_both e h
+
+pub every-fails : (n : ℕ) (f : ℕ → Bool) (k : ℕ) → k < n → f k ≡ false → every n f ≡ false
+every-fails n f k h e = split (every n f) (λ t. both (every-at n f t k h) e) (λ t. t)
+
 pub any-more : (f : ℕ → Bool) (k : ℕ) → any k f ≡ false → f k ≡ false → any (k + 1) f ≡ false
 unfolding any
 any-more f k h e = ap (λ (n : ℕ). any n f) (add-one k) ∙ simp (e, h)

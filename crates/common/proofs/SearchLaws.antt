@@ -1,7 +1,7 @@
 -- What an iterator's `any`, `all`, `position` and `fold` find in a list, or among the numbers `a..=b`.
 -- Assumes nothing.
 use Rattle.std.specs.Prelude.{ℕ, zero, suc, false, ◌+◌, ◌-◌, ◌<◌, ◌≤◌, ◌≡◌, Bool, cond, ◌&&◌, ◌||◌, leb, ltb}
-use Rattle.std.specs.Prelude.{Option, Some, None, List, length, map, take, drop, get_or, position}
+use Rattle.std.specs.Prelude.{Option, Some, None, List, [], ◌∷◌, filter, length, map, take, drop, get_or, position}
 use Rattle.std.specs.Fn.{Called}
 use Rattle.std.specs.Iterator.{AlwaysYields, Drains}
 use Rattle.std.specs.List.{FoldsTo, enumerate_from, fold, list_all, list_any, position_or_len, range_with_len}
@@ -173,3 +173,12 @@ folded {steps} {v} {g} {s} {all} h f c r ran list computes =
     (λ ys a x b q e k. let call = computes a x b q k in
     (call.1 ∙ ap (λ d. h d (v x)) e ∙ sym (fold_push h c ys (v x)), call.0))
     s all c r list.runs refl ran
+
+-- what is folded of those that pass, each made what g makes of it, is one fold over all
+pub fold-passed : {A B C : Type 0} (h : B → A → B) (passes : C → Bool) (g : C → A) (b : B) (xs : List C)
+    → fold h b (map g (filter passes xs)) ≡ fold (λ c x. cond (passes x) (h c (g x)) c) b xs
+fold-passed h passes g b [] = refl
+fold-passed h passes g b (x ∷ xs) =
+    split (passes x)
+    (λ t. simp t (fold-passed h passes g (h b (g x)) xs))
+    (λ t. simp t (fold-passed h passes g b xs))

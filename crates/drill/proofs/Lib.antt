@@ -1,3 +1,4 @@
 -- Laws of reading in parts.
 -- Assumes nothing.
+pub mod MoveLaws
 pub mod StreamLaws

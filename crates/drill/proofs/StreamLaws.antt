@@ -3,14 +3,14 @@
 use Prim.Native.Nat.{ℕ, ◌+◌, ◌≤◌}
 use mathlib.Core.Path.{◌≡◌, refl, ap, ap₂, sym, ◌∙◌, subst}
 use mathlib.Core.List.{List, [], ◌++◌, append_assoc}
-use mathlib.Core.Bool.{Bool, true, false, not, ◌&&◌}
+use mathlib.Core.Bool.{Bool, true, false, not, ◌&&◌, ◌||◌}
 use mathlib.Core.Logic.{◌⊎◌, inl, inr}
 use native.Mathlib.Omega.{arith}
-use borrow.Author.Tests.{eq-eqb, le-ltb, ltb-false, ne_eqb}
+use borrow.Author.Tests.{eq-eqb, eqb-false, le-ltb, ltb-false, ne_eqb}
 use lib.Dec.{eqb, ltb}
 use lib.ListN.{drop, length, take}
 use lib.Seq.{length-take-le, sets, sets-eq, take-append-add, take-append-le, take-append_seam}
-use Rattle.common.proofs.TestLaws.{and-false, and-true, or_right}
+use Rattle.common.proofs.TestLaws.{and-false, and-true, or_left, or_right}
 use Rattle.frame.specs.Frames.{kind_in}
 use Rattle.records.specs.Records.{record_total, stops}
 use Rattle.records.proofs.RecordLaws.{goes_some, goes-whole}
@@ -22,6 +22,10 @@ use Rattle.day.proofs.OutputLaws.{after, read-leaves, reads_on, text}
 use Rattle.drill.specs.Stream.{Prints, longest_line, waiting}
 
 -- when a record waits
+pub waits-not : (bytes : List ℕ) → waiting true bytes ≡ false
+unfolding waiting
+waits-not bytes = refl
+
 module _ (last : Bool) (bytes : List ℕ) where
   pub waits-empty : length bytes ≡ 0 → waiting last bytes ≡ not last
   unfolding waiting
@@ -40,6 +44,10 @@ unfolding waiting
 ready true bytes e = inr refl
 ready false bytes e =
     inl (ltb-false (length bytes) (record_total (kind_in bytes)) (or_right (eqb (length bytes) 0) _ e))
+
+-- nothing is printed yet
+pub nothing_yet : (d : Day) (bytes : List ℕ) (last : Bool) → Prints d bytes last [] d bytes
+nothing_yet d bytes last = record { whatever = λ more none. refl }
 
 -- the same bytes left, said otherwise
 pub same_rest : {d : Day} {bytes : List ℕ} {last : Bool} {so_far : List ℕ} {day : Day} {rest other : List ℕ}
@@ -105,3 +113,21 @@ one-read day bytes last buffer new n r e room some now size =
     (subst (λ (y : Day). Prints day bytes last (text day bytes) y (drop n bytes)) (sym (ap (λ (o : Outcome). o.day) leaves))
     (one-record day bytes last n some now
     (λ go. let two = goes_some day.group.count bytes go in size (omega arith) (goes-whole day.group.count bytes go))))
+
+-- whether no record can be read
+abbrev idle : Bool → ℕ → ℕ → Bool → Bool
+idle over size room waits = over || (eqb size 0 || (ltb room longest_line || waits))
+
+pub not-idle : (over : Bool) (size room : ℕ) (waits : Bool)
+    → over ≡ false → 1 ≤ size → waits ≡ false → longest_line ≤ room → idle over size room waits ≡ false
+not-idle over size room waits o s w r = simp (o, ne_eqb size 0 (λ z. omega arith), le-ltb room longest_line r, w)
+
+module _ (over : Bool) (size room : ℕ) (waits : Bool) (e : idle over size room waits ≡ false) where
+  pub some_left : 1 ≤ size
+  some_left = let n = eqb-false size 0 (or_left (eqb size 0) _ (or_right over _ e)) in omega arith
+
+  pub room-left : longest_line ≤ room
+  room-left = ltb-false room longest_line (or_left (ltb room longest_line) waits (or_right (eqb size 0) _ (or_right over _ e)))
+
+  pub none-waits : waits ≡ false
+  none-waits = or_right (ltb room longest_line) waits (or_right (eqb size 0) _ (or_right over _ e))

@@ -2,11 +2,13 @@
 -- Assumes nothing.
 use Prim.Native.Nat.{ℕ, zero, suc, ◌+◌, ◌*◌, ◌/◌, ◌%◌, ◌^◌, ◌<◌, ◌≤◌}
 use mathlib.Core.Path.{◌≡◌, refl, ap, ap₂, sym, ◌∙◌, subst, subst⁻¹}
-use mathlib.Core.List.{List, [], ◌∷◌}
-use native.Mathlib.Nat.{pow-zero, pow-suc, mul_comm, mod-eq_of_lt, mod-one, pow-succ'}
+use mathlib.Core.List.{List, [], ◌∷◌, ◌++◌}
+use native.Mathlib.Nat.{pow-zero, pow-suc, mul_assoc, mul_comm, add-mul, add_assoc, mod-eq_of_lt, mod-one, pow-succ'}
+use native.Mathlib.Numerals.{add-one}
 use native.Mathlib.Omega.{arith}
-use lib.ListN.{length, get_or, take, drop}
-use lib.Seq.{drop-cons, drop-drop, get_or-drop}
+use lib.ListN.{length, get_or, take, drop, set, length-append}
+use lib.Seq.{drop-cons, drop-drop, get_or-drop, sets}
+use Rattle.frame.proofs.Stores.{set-sets}
 use lib.Arith.{mod-mul, digits_div, digits_mod, digits_lt}
 use Rattle.std.specs.Int.{w16, w32, from_be_bytes}
 use Rattle.frame.specs.Typed.{Bytes}
@@ -51,6 +53,14 @@ unfolding number_of
 number_of-lt [] h = pow_pos 0
 number_of-lt (b ∷ bs) h =
     rw (pow-succ' 256 (length bs)) (digits_lt (h 0) (number_of-lt bs (λ i. h (suc i))))
+
+-- one more byte behind
+pub number_of-snoc : (bs : List ℕ) (b : ℕ) → number_of (bs ++ (b ∷ [])) ≡ number_of bs * 256 + b
+unfolding number_of
+number_of-snoc [] b = simp (pow-zero) (omega arith)
+number_of-snoc (a ∷ bs) b =
+    ap₂ (λ (n m : ℕ). a * 256 ^ n + m) (length-append bs (b ∷ []) ∙ add-one (length bs)) (number_of-snoc bs b)
+    ∙ simp (pow-suc, add-mul, mul_assoc, add_assoc)
 
 -- equal lengths and equal numbers: the same bytes
 pub number_of-one : (cs bs : List ℕ) → Bytes cs → Bytes bs → length cs ≡ length bs → number_of cs ≡ number_of bs → cs ≡ bs
@@ -110,3 +120,11 @@ unpack-at w ws n bs = ap (λ (l : List ℕ). number_of (take w (drop n bs)) ∷ 
 pub unpack-none : (bs : List ℕ) → unpack [] bs ≡ []
 unfolding unpack
 unpack-none bs = refl
+
+-- one byte more in front of those that are written
+pub put-more : (l : List ℕ) (at w x rest : ℕ) → rest ≡ x / 256 ^ w
+    → set (sets l (suc at) (bytes_of w x)) at (rest % 256) ≡ sets l at (bytes_of (suc w) x)
+unfolding bytes_of
+put-more l at w x rest e =
+    set-sets l at (suc at) (rest % 256) (bytes_of w x) (omega arith)
+    ∙ ap (λ (r : ℕ). sets (set l at (r % 256)) (suc at) (bytes_of w x)) e

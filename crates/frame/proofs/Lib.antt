@@ -3,5 +3,6 @@
 pub mod DigitLaws
 pub mod Stores
 pub mod FrameLaws
+pub mod StoredLaws
 pub mod RoundTrip
 pub mod Settled

@@ -1,15 +1,18 @@
 -- Laws of the drill's ledgers, one for each way through the definitions.
 -- Assumes nothing.
-use Prim.Native.Nat.{ℕ, ◌<◌, ◌≤◌}
-use mathlib.Core.Path.{◌≡◌, sym, ◌∙◌}
-use mathlib.Core.List.{List}
+use Prim.Native.Nat.{ℕ, ◌+◌, ◌<◌, ◌≤◌}
+use mathlib.Core.Path.{◌≡◌, ap, ap₂, sym, ◌∙◌}
+use mathlib.Core.List.{List, [], ◌∷◌, ◌++◌}
 use mathlib.Core.Bool.{true, false}
 use native.Mathlib.Omega.{arith}
 use lib.Dec.{leb}
 use borrow.Author.Tests.{eq-eqb, leb-true, ne_eqb}
-use lib.ListN.{length, get_or}
+use lib.ListN.{length, length-drop, get_or, set, take, drop}
+use lib.Seq.{get_or-drop, get_or-set_other, get_or-set_same, take-suc, take-suc-set}
+use native.Mathlib.Nat.{add_comm}
+use native.Mathlib.Numerals.{add-one}
 use Rattle.common.specs.Places.{listed}
-use Rattle.common.proofs.PlaceLaws.{listed-places, listed_same}
+use Rattle.common.proofs.PlaceLaws.{last-or-before, listed-places, listed_same}
 use Rattle.common.proofs.TestLaws.{and_left, and_right}
 use Rattle.frame.specs.Frames.{kind_in, multicast, propose}
 use Rattle.ledgers.specs.Ledgers.{is_group, is_ledger_of}
@@ -66,8 +69,26 @@ module _ (g : Group) (bytes list : List ℕ) (go : stops g.count bytes ≡ false
       → is_ledger_of g.count (second_in bytes) ≡ true
   target-there k is step = goes-target g.count bytes go (λ z. step (sym (kind_byte (kind_in bytes) k is) ∙ z))
 
+-- one byte of the body more, where the first bytes are the kind and some of the body
+pub body_more : (made bytes : List ℕ) (kind i : ℕ) → i + 1 < length made → i + 2 < length bytes
+    → take (i + 1) made ≡ kind ∷ take i (drop 2 bytes)
+    → take (i + 1 + 1) (set made (i + 1) (get_or bytes (i + 2) 0)) ≡ kind ∷ take (i + 1) (drop 2 bytes)
+body_more made bytes kind i h g e =
+    ap (λ (m : ℕ). take m (set made (i + 1) (get_or bytes (i + 2) 0))) (add-one (i + 1))
+    ∙ take-suc-set made (i + 1) (get_or bytes (i + 2) 0) h
+    ∙ ap₂ (λ (l : List ℕ) (x : ℕ). l ++ (x ∷ [])) e (sym (get_or-drop 2 bytes i 0 ∙ ap (λ (m : ℕ). get_or bytes m 0) (add_comm 2 i)))
+    ∙ ap (λ (l : List ℕ). kind ∷ l) (sym (take-suc (drop 2 bytes) i 0 (omega (arith, length-drop 2 bytes)))
+    ∙ ap (λ (m : ℕ). take m (drop 2 bytes)) (sym (add-one i)))
+
 -- a list made place by place
 module _ {A : Type 0} (d : A) (f : ℕ → A) where
+  pub place-more : (xs : List A) (i : ℕ) (v : A) → i < length xs → v ≡ f i → ((k : ℕ) → k < i → get_or xs k d ≡ f k)
+      → (k : ℕ) → k < i + 1 → get_or (set xs i v) k d ≡ f k
+  place-more xs i v h e before k l =
+      last-or-before i k (rw add-one at l)
+      (λ q. rw q (get_or-set_same xs i v d h ∙ e))
+      (λ m. get_or-set_other xs i k v d (λ q. omega arith) ∙ before k m)
+
   pub places-all : (xs : List A) (n : ℕ) → length xs ≡ n → ((k : ℕ) → k < n → get_or xs k d ≡ f k) → xs ≡ listed n f
   places-all xs n e all = sym (listed-places xs n d e) ∙ listed_same n (λ k. get_or xs k d) f all
 

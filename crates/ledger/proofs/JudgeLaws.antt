@@ -15,7 +15,7 @@ use Rattle.ledgers.specs.Ledgers.{is_ledger_of}
 use Rattle.payment.specs.Payments.{last_time}
 use Rattle.held.specs.Held.{found_at, limit}
 use Rattle.refusals.specs.Refusals.{first_given, found, frame_rows, incoming, is_held, judge, known_in, known_of, no_of, payment_in, received, row, told}
-use Rattle.refusals.specs.Refusals.{Incoming}
+use Rattle.refusals.specs.declared.Incoming.{Incoming}
 use Rattle.refusals.specs.declared.Judged.{Judged}
 use Rattle.refusals.specs.declared.Refused.{Refused}
 use Rattle.std.specs.Prelude.{Result, Ok, Err, unwrap_or}

@@ -11,8 +11,9 @@ use Rattle.payment.specs.Payments.{in_phase, stamp_of, stamped}
 use Rattle.frame.specs.declared.Time.{Time}
 use Rattle.payment.specs.declared.Payment.{Payment}
 use Rattle.held.specs.Held.{at, holds, limit}
-use Rattle.ledger.specs.Step.{count_for, keeping, kept_at, place_for, stamp_rule}
+use Rattle.ledger.specs.Step.{after_hearing, count_for, keeping, kept_at, multicast_rule, place_for, propose_rule, stamp_rule}
 use Rattle.refusals.specs.Refusals.{found, received}
+use Rattle.refusals.specs.declared.Incoming.{Incoming}
 use Rattle.refusals.specs.declared.Judged.{Judged}
 use Rattle.ledger.specs.declared.rules.Accepted.{Accepted}
 use Rattle.ledger.specs.declared.Ledger.{Ledger}
@@ -34,6 +35,14 @@ module _ (l : Ledger) (i : ℕ) where
   pub stamp-not : ((at l.payments i).heard ≡ (at l.payments i).destinations → ⊥) → stamp_rule l i ≡ l
   unfolding stamp_rule
   stamp-not n = simp (ne_eqb _ _ n)
+
+-- whose frame it is
+module _ (l : Ledger) (f : Incoming) where
+  pub received-propose : f.kind ≡ 2 → after_hearing l f ≡ propose_rule l f
+  received-propose e = ap (λ b. cond b (propose_rule l f) (multicast_rule l f)) (eq-eqb _ _ e)
+
+  pub received-multicast : (f.kind ≡ 2 → ⊥) → after_hearing l f ≡ multicast_rule l f
+  received-multicast n = ap (λ b. cond b (propose_rule l f) (multicast_rule l f)) (ne_eqb _ _ n)
 
 -- where the payment of a frame that is taken is kept, that there is room, and how many are held with it
 module _ (a : Accepted) where

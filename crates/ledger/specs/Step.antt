@@ -9,7 +9,8 @@ use Rattle.payment.specs.Payments.{all_heard, hear, in_phase, last_time, propose
 use Rattle.payment.specs.declared.Payment.{Payment}
 use Rattle.held.specs.Held.{at, found_at, limit}
 use Rattle.posting.specs.Posting.{written as posting}
-use Rattle.refusals.specs.Refusals.{Incoming, answer_no, incoming, is_held, is_propose, payment_in, place_in, received}
+use Rattle.refusals.specs.Refusals.{answer_no, incoming, is_held, is_propose, payment_in, place_in, received}
+use Rattle.refusals.specs.declared.Incoming.{Incoming}
 use Rattle.refusals.specs.declared.Judged.{Judged}
 use Rattle.refusals.specs.declared.Refusal.{Refusal}
 use Rattle.sending.specs.Sending.{recipients, written}

@@ -3,7 +3,8 @@
 use Rattle.std.specs.Prelude.{ℕ, List, ◌∷◌, not, ◌||◌, length, ltb}
 use Rattle.frame.specs.Frames.{propose, total}
 use Rattle.held.specs.Held.{limit}
-use Rattle.refusals.specs.Refusals.{Incoming, Row, first_given, frame_rows, row, rows}
+use Rattle.refusals.specs.Refusals.{Row, first_given, frame_rows, row, rows}
+use Rattle.refusals.specs.declared.Incoming.{Incoming}
 use Rattle.ledger.specs.Sound.{sound}
 use Rattle.ledger.specs.declared.Ledger.{Ledger}
 

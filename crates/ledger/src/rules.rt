@@ -9,7 +9,7 @@ use crate::{Ledger, Step};
 use frame::{Frame, LedgerNo, Time};
 use held::HELD;
 use payment::Payment;
-use refusals::Judged;
+use refusals::{Incoming, Judged};
 
 impl Ledger {
     // The frame's payment is kept at its place; a new one goes behind those held, and is counted.
@@ -110,7 +110,7 @@ impl Accepted {
         let recipients = sending::send(
             self.ledger.own,
             self.own_time(),
-            self.judged.frame,
+            Incoming::from(self.judged.frame),
             outgoing,
         );
         let (state, posted) = self.after_hearing().stamp(place).post(postings);

@@ -30,6 +30,10 @@ pub has-beyond : (d l : ℕ) → d < 256 → 8 < l → has d l ≡ false
 unfolding has
 has-beyond d l hd h = ap (has d) (place l (λ e. omega arith)) ∙ bit-beyond d (l - 1) hd (omega arith)
 
+pub has-bit : (d l : ℕ) → (l ≡ 0 → ⊥) → has d l ≡ bit d (l - 1)
+unfolding has
+has-bit d l h = ap (has d) (place l h)
+
 pub with-bit : (d l : ℕ) → d < 256 → (l ≡ 0 → ⊥) → l ≤ 8 → bit_or d (1 * 2 ^ (l - 1) % 256) ≡ with d l
 unfolding with
 with-bit d l hd h hl = with-or d (l - 1) hd (omega arith) ∙ sym (ap (with d) (place l h))

@@ -3,6 +3,7 @@
 use Prim.Native.Nat.{ℕ, zero, suc, ◌/◌, ◌%◌, ◌<◌, ◌≤◌, ◌^◌}
 use mathlib.Core.Path.{◌≡◌, ap, sym, ◌∙◌, subst}
 use mathlib.Core.List.{List, [], ◌∷◌, ◌++◌}
+use native.Mathlib.Nat.{pow-suc}
 use native.Mathlib.Omega.{arith}
 use borrow.Author.Tests.{le-ltb, lt-ltb, ltb-false, ltb-true}
 use lib.Dec.{ltb}
@@ -30,6 +31,9 @@ length_digits (suc k) n =
     split (ltb n 10)
     (λ t. simp t (omega arith))
     (λ t. simp (t, length-append) (let less = length_digits k (n / 10) in omega arith))
+
+pub tenth-less : (j rest : ℕ) → rest < 10 ^ suc j → rest / 10 < 10 ^ j
+tenth-less j rest h = let e = pow-suc 10 j in omega arith
 
 -- what the library says of a number in decimal holds of ours
 pub decimal-is : (n : ℕ) → n < 2 ^ 64 → decimal n ≡ written n

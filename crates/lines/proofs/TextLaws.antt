@@ -5,6 +5,8 @@ use mathlib.Core.Path.{◌≡◌, refl, ap, ap₂, sym, ◌∙◌, subst}
 use mathlib.Core.List.{List, [], ◌∷◌, ◌++◌, map, append_assoc, append-nil, map-append}
 use native.Mathlib.Omega.{arith}
 use lib.ListN.{get_or, length, length-append, take}
+use mir.Syntax.{w32, w64}
+use mir.Val.{Fits}
 use lib.Seq.{sets}
 use Rattle.std.proofs.lemmas.List.{take_more}
 use Rattle.frame.proofs.Stores.{sets-append}
@@ -29,6 +31,10 @@ then {w} {mid} {new} {s} {t} a b =
 -- the same text, said otherwise
 pub same : {w new : Writer} {s t : List ℕ} → s ≡ t → Adds w s new → Adds w t new
 same {w} {new} e a = subst (λ (x : List ℕ). Adds w x new) e a
+
+-- a number of 32 bits is one of 64
+pub wide : {x : ℕ} → Fits w32 x → Fits w64 x
+wide f = record { fits = omega (arith, f.fits) }
 
 -- a whole line
 pub whole : {w new : Writer} {text : List ℕ} → w.length ≡ 0 → Adds w text new → wrote new.length new.out.now ≡ writing text w.out.now

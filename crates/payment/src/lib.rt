@@ -81,15 +81,20 @@ const NO_STAMP: Stamp = Stamp {
     ledger: LedgerNo(0),
 };
 
-// [R31, X3] Stamp picking: the greatest of the proposals heard.
+// [R31, X3] Stamp picking: the greatest of the proposals heard. One pass, with the test in it and no `..=`: behind a `filter`, a step that
+// compares many stamps takes near twice the instructions.
 fn pick(times: [Time; 8], heard: u8) -> Stamp
     ensures { result ≡ greatest times heard 8 }
 {
-    (1..=ledgers::MOST)
+    (1..ledgers::MOST + 1)
         .map(LedgerNo)
-        .filter(|k| ledgers::among(heard, *k))
-        .map(|k| proposal(times, k))
-        .fold(NO_STAMP, Stamp::max)
+        .fold(NO_STAMP, |best, k| {
+            if ledgers::among(heard, k) {
+                best.max(proposal(times, k))
+            } else {
+                best
+            }
+        })
 }
 
 // A payment that is taken in: nothing heard, waiting.

@@ -98,7 +98,7 @@ module _ (payments : List Payment) (own i : ℕ) (h : i < length payments) (free
   same-numbers js = ap (λ (f : ℕ → ℕ). map f js) (fun_ext (same-part (λ p. p.number.0) refl))
 
 -- the search for the next payment finds none exactly when none is free
-next-none : (payments : List Payment) (own : ℕ) → eqb (next_of payments own) limit ≡ not (any limit (is_free payments own))
+pub next-none : (payments : List Payment) (own : ℕ) → eqb (next_of payments own) limit ≡ not (any limit (is_free payments own))
 next-none payments own =
     split (any limit (is_free payments own))
     (λ t. let first = (least_first (before payments) limit (is_free payments own) limit (omega arith) t).0 in

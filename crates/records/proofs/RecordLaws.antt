@@ -1,19 +1,19 @@
 -- Laws of the records, one for each way through the definitions.
 -- Assumes nothing.
 use Prim.Native.Nat.{ℕ, ◌≤◌}
-use mathlib.Core.Path.{◌≡◌, refl, ap, sym, ◌∙◌}
-use mathlib.Core.List.{List}
+use mathlib.Core.Path.{◌≡◌, refl, ap, ap₂, sym, ◌∙◌}
+use mathlib.Core.List.{List, ◌∷◌}
 use mathlib.Core.Bool.{Bool, true, false, cond, not, ◌||◌}
 use mathlib.Core.Logic.{inl, inr}
 use native.Mathlib.Omega.{arith}
 use lib.Dec.{eqb, ltb}
 use borrow.Author.Tests.{eq-eqb, eqb-false, eqb-true, ltb-false, ne_eqb, not-false, le-ltb, lt-ltb}
-use lib.ListN.{length}
+use lib.ListN.{drop, length, take}
 use Rattle.common.proofs.TestLaws.{or_left, or_right, or-true, split}
 use Rattle.frame.specs.Digits.{sum}
 use Rattle.frame.specs.Frames.{body, kind_in, known, multicast, propose, total_in}
 use Rattle.ledgers.specs.Ledgers.{is_group, is_ledger_of}
-use Rattle.records.specs.Records.{carried, frame_in, kind_of, record_size, record_total, records, row_of, row_total, second_in, stops}
+use Rattle.records.specs.Records.{carried, frame_in, kind_of, multicast_record, record_size, record_total, records, row_of, row_total, second_in, stops}
 use Rattle.records.specs.declared.Kind.{Kind}
 use Rattle.records.specs.declared.Kind.TheVariants.{SetUp, Multicast, Propose}
 use Rattle.std.specs.Option.{unwrap_or}
@@ -49,6 +49,16 @@ total-propose k a b some =
     (λ e. absurd (b e))
     (ap record_total)
     (λ d e f. absurd (some (total-other k d e f)))
+
+-- no record is longer than one of kind 18
+pub total-most : (k : ℕ) → record_total k ≤ 10
+unfolding record_total known body sum
+total-most k =
+    by_kind k
+    (λ a. let e : record_total k ≡ 2 = ap record_total a in omega arith)
+    (λ a. let e : record_total k ≡ 7 = ap record_total a in omega arith)
+    (λ a. let e : record_total k ≡ 10 = ap record_total a in omega arith)
+    (λ a b c. let none = total-other k a b c in omega arith)
 
 -- a record has a byte after its kind
 pub total-second : (k : ℕ) → (record_total k ≡ 0 → ⊥) → 2 ≤ record_total k
@@ -182,6 +192,35 @@ frame-multicast bytes e = simp (eq-eqb _ _ e)
 pub frame-propose : (bytes : List ℕ) → (kind_in bytes ≡ 17 → ⊥) → frame_in bytes ≡ carried propose bytes
 unfolding frame_in
 frame-propose bytes n = simp (ne_eqb _ _ n)
+
+-- the kind of the frame of a step record
+abbrev pub frame_kind : ℕ → ℕ
+frame_kind kind = cond (eqb kind multicast_record.kind) multicast.kind propose.kind
+
+pub kind-multicast : (k : ℕ) → k ≡ 17 → frame_kind k ≡ 1
+kind-multicast k e = simp (eq-eqb _ _ e)
+
+pub kind-propose : (k : ℕ) → (k ≡ 17 → ⊥) → frame_kind k ≡ 2
+kind-propose k n = simp (ne_eqb _ _ n)
+
+-- the frame of a step record that goes on, in the first bytes of a longer list
+module _ (n : ℕ) (bytes made : List ℕ) (go : stops n bytes ≡ false) (step : kind_in bytes ≡ 16 → ⊥) (kind size : ℕ)
+    (is-kind : kind ≡ frame_kind (kind_in bytes)) (is-size : size + 1 ≡ record_total (kind_in bytes)) (body : ℕ) (is-body : body + 1 ≡ size)
+    (is : take (body + 1) made ≡ kind ∷ take body (drop 2 bytes)) where
+  by_parts : (k m : ℕ) → kind ≡ k → body ≡ m → take size made ≡ k ∷ take m (drop 2 bytes)
+  by_parts k m e f =
+      ap (λ (i : ℕ). take i made) (sym is-body) ∙ is ∙ ap₂ (λ (x i : ℕ). x ∷ take i (drop 2 bytes)) e f
+
+  pub frame_made : take size made ≡ frame_in bytes
+  unfolding record_total known body sum
+  frame_made =
+      split (eqb (kind_in bytes) 17)
+      (λ t. let e = eqb-true (kind_in bytes) 17 t in
+      let seven : record_total (kind_in bytes) ≡ 7 = ap record_total e in
+      by_parts 1 5 (is-kind ∙ kind-multicast (kind_in bytes) e) (omega arith) ∙ sym (frame-multicast bytes e))
+      (λ t. let e = eqb-false (kind_in bytes) 17 t in
+      let ten = total-propose (kind_in bytes) step e (goes-known n bytes go) in
+      by_parts 2 8 (is-kind ∙ kind-propose (kind_in bytes) e) (omega arith) ∙ sym (frame-propose bytes e))
 
 -- the length, or 0 where the kind is unknown
 pub size-or-zero : (k : ℕ) → unwrap_or (record_size k) 0 ≡ record_total k

@@ -5,8 +5,8 @@ use mathlib.Core.Path.{◌≡◌, refl, ap, ap₂, sym, ◌∙◌}
 use mathlib.Core.List.{List}
 use mathlib.Core.Bool.{Bool, true, false, not, cond, ◌&&◌, ◌||◌}
 use lib.Dec.{eqb}
-use borrow.Author.Tests.{eq-eqb}
-use Rattle.common.proofs.TestLaws.{and-go, and-stop, split}
+use borrow.Author.Tests.{eq-eqb, ne_eqb}
+use Rattle.common.proofs.TestLaws.{and-go, and-stop, or-false, split}
 use Rattle.ledgers.proofs.LedgerLaws.{has-empty}
 use Rattle.frame.specs.Frames.{frame_values, not_a_frame, reading, told as read-told}
 use Rattle.frame.specs.declared.NotAFrame.{NotAFrame as FrameNone}
@@ -26,7 +26,7 @@ use Rattle.held.specs.Held.{found_at, held_for_another}
 use Rattle.std.specs.Prelude.{Some, None, Result, Ok}
 use Rattle.refusals.specs.Refusals.{Judgement, Known, another_time, answer_no, conflict, first_given, held_one, incoming, is_held, is_propose}
 use Rattle.refusals.specs.Refusals.{judge, known_in, known_of, looked_up, no_of, other_destinations, payment_in, received, repeat, repeats, rows}
-use Rattle.refusals.specs.Refusals.{Incoming}
+use Rattle.refusals.specs.declared.Incoming.{Incoming}
 
 module _ (payments : List Payment) (f : Incoming) where
   abbrev new : Payment
@@ -53,6 +53,9 @@ module _ (payments : List Payment) (f : Incoming) where
       (split (is_propose f)
       (λ t. ap (λ b. cond b (has_proposal new f.source.0 f.time.0) false) t ∙ and-stop _ (has-empty f.source.0))
       (λ t. ap (λ b. cond b (has_proposal new f.source.0 f.time.0) false) t))
+
+  pub conflict-multicast : (f.kind ≡ 2 → ⊥) → conflict payments f ≡ other_destinations payments f
+  conflict-multicast k = ap (λ b. other_destinations payments f || b) (and-stop _ (ne_eqb _ _ k)) ∙ or-false _
 
 -- what row 8 asks of a PROPOSE, said of its payment, held or new
 pub conflict-propose : (payments : List Payment) (number : PaymentNo) (destinations : ℕ) (source : LedgerNo) (time : Time) (p : Payment)

@@ -5,13 +5,11 @@ use Rattle.std.specs.Prelude.{Option, Some, None, Result, Ok, Err}
 use Rattle.std.specs.Option.{option_map}
 use Rattle.frame.specs.Frames.{Values, frame_values, not_a_frame, propose, values_of}
 use Rattle.frame.specs.declared.Frame.{Frame}
-use Rattle.frame.specs.declared.LedgerNo.{LedgerNo}
-use Rattle.frame.specs.declared.PaymentNo.{PaymentNo}
-use Rattle.frame.specs.declared.Time.{Time}
 use Rattle.ledgers.specs.Ledgers.{has, unlawful}
 use Rattle.payment.specs.Payments.{has_proposal, heard_from, is_time, is_waiting, last_time, new_payment, time_from}
 use Rattle.payment.specs.declared.Payment.{Payment}
 use Rattle.held.specs.Held.{at, found_at, held_for_another, holds, limit, place_of}
+use Rattle.refusals.specs.declared.Incoming.{Incoming}
 use Rattle.refusals.specs.declared.Judged.{Judged}
 use Rattle.refusals.specs.declared.Refusal.{Refusal}
 use Rattle.refusals.specs.declared.Refused.{Refused}
@@ -59,14 +57,6 @@ no_of ClockAtEnd = 11
 abbrev pub answer_no : Result (Unit {0}) Refusal → ℕ
 answer_no (Ok taken) = 0
 answer_no (Err refusal) = no_of refusal
-
--- the values that the rows and the rules read of a frame
-pub record Incoming : Type 0 where
-  pub kind : ℕ
-  pub payment : PaymentNo
-  pub destinations : ℕ
-  pub source : LedgerNo
-  pub time : Time
 
 -- the frame's values by name; a MULTICAST has no source and no time: 0
 abbrev pub incoming : Values → Incoming

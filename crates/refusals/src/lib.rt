@@ -48,6 +48,47 @@ pub fn number(answer: Result<(), Refusal>) -> u8
     }
 }
 
+// A frame's values, flat, as the rows of the table and what is sent read them; a MULTICAST has source 0 and time 0.
+#[derive(Clone, Copy)]
+pub struct Incoming {
+    pub kind: u8,
+    pub payment: PaymentNo,
+    pub destinations: u8,
+    pub source: LedgerNo,
+    pub time: Time,
+}
+
+impl From<Frame> for Incoming {
+    ghost from_gives = { λ frame f. f ≡ received frame };
+
+    fn from(frame: Frame) -> Incoming {
+        match frame {
+            Frame::Multicast {
+                payment,
+                destinations,
+            } => Incoming {
+                kind: frame::MULTICAST,
+                payment,
+                destinations,
+                source: LedgerNo(0),
+                time: Time(0),
+            },
+            Frame::Propose {
+                payment,
+                destinations,
+                source,
+                time,
+            } => Incoming {
+                kind: frame::PROPOSE,
+                payment,
+                destinations,
+                source,
+                time,
+            },
+        }
+    }
+}
+
 // A frame with its payment: the held one at its place, or a new one.
 #[derive(Clone, Copy)]
 pub struct Judged {

@@ -14,7 +14,7 @@ use lib.Dec.{eqb}
 use borrow.Author.Tests.{eq-eqb, eqb-false, eqb-true, lt-ltb, ne_eqb}
 use Rattle.common.specs.Places.{every}
 use Rattle.common.proofs.PlaceLaws.{every-at, every-same}
-use Rattle.common.proofs.TestLaws.{and-false, and_left, and_right, and-true, both, or_cases, split}
+use Rattle.common.proofs.TestLaws.{and-false, and_left, and_right, and-stop, and-true, both, or_cases, split}
 use Rattle.ledgers.specs.Ledgers.{has, most_ledgers}
 use Rattle.ledgers.proofs.LedgerLaws.{has-empty}
 use Rattle.payment.specs.Payments.{all_heard, has_proposal, has_stamp, heard_from, is_posted, is_proposed, no_time, time_in}
@@ -24,6 +24,9 @@ use Rattle.right.specs.Right.{heard_right, phase_right, time_right, times_differ
 use Rattle.payment.specs.declared.Payment.{Payment}
 
 module _ (p : Payment) (k : ℕ) where
+  pub right-unheard : heard_from p k ≡ false → time_right p k ≡ eqb (time_from p k) 0
+  right-unheard e = simp e
+
   pub right-elsewhere : heard_from p k ≡ true → has p.destinations k ≡ false → time_right p k ≡ false
   right-elsewhere e f = simp (e, f)
 
@@ -84,6 +87,17 @@ unused-equal p size =
     (and_comm _ (is_waiting p)
     ∙ ap (λ b. is_waiting p && b) (zeros p.times 8 size
     ∙ every-same 8 _ _ (λ k h. sym (ap (λ b. eqb (cond b (get_or p.times k no_time) no_time).0 0) (lt-ltb k 8 h)))))
+
+-- where nothing is heard, all times are 0 exactly when each is right
+pub unused-right : (p : Payment)
+    → unused p ≡ eqb p.number.0 0 && (eqb p.destinations 0 && (eqb p.heard 0 && (is_waiting p && heard_right p)))
+unfolding unused heard_right
+unused-right p =
+    ap (λ b. eqb p.number.0 0 && (eqb p.destinations 0 && b))
+    (split (eqb p.heard 0)
+    (λ t. ap (λ b. eqb p.heard 0 && (is_waiting p && b))
+    (every-same most_ledgers _ _ (λ k l. sym (right-unheard p (suc k) (ap (λ b. has b (suc k)) (eqb-true _ _ t) ∙ has-empty (suc k))))))
+    (λ t. and-stop _ t ∙ sym (and-stop _ t)))
 
 -- a stamped or posted payment has heard every destination
 pub stamp-all : (own : ℕ) (p : Payment) → has_stamp p ≡ true → phase_right own p ≡ true → p.heard ≡ p.destinations

@@ -19,10 +19,14 @@ fn time_right(p: Payment, ledger: LedgerNo) -> bool
     }
 }
 
+// The numbers go up to one below `MOST + 1`, here and in `times_differ`: `..=MOST` carries a flag beside the number, and with it a step
+// on a full ledger takes half as long again.
 fn heard_right(p: Payment) -> bool
     ensures { result ≡ heard_right p }
 {
-    (1..=ledgers::MOST).map(LedgerNo).all(|k| time_right(p, k))
+    (1..ledgers::MOST + 1)
+        .map(LedgerNo)
+        .all(|k| time_right(p, k))
 }
 
 #[tactic(auto, unfolding(crate::specs::Right::not_above_clock))]
@@ -70,7 +74,7 @@ pub fn is_unused(p: Payment) -> bool
 fn times_differ(p: Payment, q: Payment) -> bool
     ensures { result ≡ times_differ p q }
 {
-    (1..=ledgers::MOST).map(LedgerNo).all(|k| {
+    (1..ledgers::MOST + 1).map(LedgerNo).all(|k| {
         !(ledgers::among(p.heard, k) && q.has_proposal(k, payment::time_in(p.times, k)))
     })
 }

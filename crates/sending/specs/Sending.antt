@@ -6,7 +6,8 @@ use Rattle.frame.specs.declared.Frame.TheVariants.{Propose}
 use Rattle.frame.specs.declared.LedgerNo.{LedgerNo}
 use Rattle.frame.specs.declared.Time.{Time}
 use Rattle.ledgers.specs.Ledgers.{without}
-use Rattle.refusals.specs.Refusals.{Incoming, is_propose}
+use Rattle.refusals.specs.Refusals.{is_propose}
+use Rattle.refusals.specs.declared.Incoming.{Incoming}
 
 -- [R13] all destinations but this ledger; [R22] of a PROPOSE nobody
 abbrev pub recipients : ℕ → Incoming → ℕ

@@ -24,7 +24,7 @@ use Rattle.refusals.specs.Refusals.{bad_source, bad_time, conflict, other_destin
 use Rattle.refusals.specs.Refusals.{held_one, is_held, is_propose, another_time, repeat, clock_at_end}
 use Rattle.ledger.specs.Table.{value_rows}
 use Rattle.ledger.specs.Step.{payment_for, place_for}
-use Rattle.refusals.specs.Refusals.{Incoming}
+use Rattle.refusals.specs.declared.Incoming.{Incoming}
 use Rattle.ledger.specs.declared.Ledger.{Ledger}
 use Rattle.ledger.specs.Sound.{each}
 use Rattle.ledger.proofs.SoundLaws.{Almost}

@@ -25,7 +25,7 @@ use Rattle.checked.proofs.ReflectLaws.{each_at}
 use Rattle.ledger.specs.Sound.{in_range}
 use Rattle.refusals.specs.Refusals.{other_destinations, is_propose, another_time}
 use Rattle.ledger.specs.Step.{new_own_time, payment_for, place_for}
-use Rattle.refusals.specs.Refusals.{Incoming}
+use Rattle.refusals.specs.declared.Incoming.{Incoming}
 use Rattle.ledger.specs.declared.Ledger.{Ledger}
 use Rattle.ledger.proofs.JudgeLaws.{clock-range}
 use Rattle.ledger.proofs.SoundLaws.{Almost}

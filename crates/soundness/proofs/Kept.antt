@@ -20,7 +20,7 @@ use Rattle.refusals.specs.Refusals.{first_given, is_held, is_propose}
 use Rattle.ledger.specs.Table.{value_rows}
 use Rattle.ledger.specs.Step.{count_for, after_stamping, multicast_rule, new_own_time, payment_for, place_for}
 use Rattle.ledger.specs.Step.{propose_rule, after_hearing, post_rule, stamp_rule, taken}
-use Rattle.refusals.specs.Refusals.{Incoming}
+use Rattle.refusals.specs.declared.Incoming.{Incoming}
 use Rattle.ledger.specs.declared.Ledger.{Ledger}
 use Rattle.ledger.proofs.JudgeLaws.{count-range, place-range}
 use Rattle.ledger.proofs.SoundLaws.{Almost, clauses, sound-so}

@@ -21,7 +21,7 @@ use Rattle.checked.proofs.AfterLaws.{after-proposed}
 use Rattle.checked.proofs.ReflectLaws.{each_at, posted-at, unused-at}
 use Rattle.posting.proofs.FreeLaws.{back-says, free-none, not-free-held}
 use Rattle.refusals.specs.Refusals.{first_given, found, is_held}
-use Rattle.refusals.specs.Refusals.{Incoming}
+use Rattle.refusals.specs.declared.Incoming.{Incoming}
 use Rattle.ledger.specs.Sound.{sound}
 use Rattle.ledger.specs.Step.{place_for}
 use Rattle.ledger.specs.Table.{value_rows}

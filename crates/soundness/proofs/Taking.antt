@@ -21,7 +21,7 @@ use Rattle.held.specs.Held.{at, limit, place_of}
 use Rattle.checked.proofs.AfterLaws.{after-other, after-proposed, after-stamped}
 use Rattle.refusals.specs.Refusals.{is_held}
 use Rattle.ledger.specs.Step.{count_for, payment_for, place_for}
-use Rattle.refusals.specs.Refusals.{Incoming}
+use Rattle.refusals.specs.declared.Incoming.{Incoming}
 use Rattle.ledger.specs.declared.Ledger.{Ledger}
 use Rattle.ledger.proofs.SoundLaws.{Almost}
 use Rattle.soundness.specs.Shaped.{Shaped}

@@ -1,10 +1,9 @@
+use Rattle.std.specs.Prelude.{cond}
 use Rattle.std.proofs.Common.{rules, tests}
-use mathlib.Core.Path.{◌≡◌, sym, ◌∙◌}
-use Rattle.std.proofs.lemmas.Iterator.{YieldsList-from_map}
-use Rattle.std.proofs.lemmas.Iterator.Consumers.{YieldsList-at, YieldsList-from_filter}
-use Rattle.common.proofs.SearchLaws.{folded}
+use mathlib.Core.Path.{◌≡◌, refl, sym, ap, ◌∙◌}
+use Rattle.common.proofs.SearchLaws.{fold-passed, folded}
 use Rattle.frame.specs.declared.LedgerNo.{LedgerNo}
-use Rattle.ledgers.proofs.AllLedgers.{yields-ledgers}
+use Rattle.ledgers.proofs.AllLedgers.{ledgers_to, yields-ledgers}
 use Rattle.ledgers.specs.Ledgers.{has}
 use Rattle.payment.specs.Payments.{no_stamp, proposal}
 use Rattle.payment.proofs.GreatestLaws.{greatest-listed}
@@ -16,14 +15,11 @@ pub returns : goal.returns
 returns c =
     let times = c.args.times in
     let heard = c.args.heard in
-    let new = c.new.ensures in
-    folded higher _ no_stamp c.fold.result c.fold.ensures.ran
-    (YieldsList-from_map _ (λ (l : LedgerNo). proposal times l.0)
-    (YieldsList-at c.map-2.ensures.source
-    (YieldsList-from_filter _ (λ (l : LedgerNo). has heard l.0)
-    (YieldsList-at c.filter.ensures.source
-    (yields-ledgers _ c.map.ensures.source new.start new.end new.exhausted c.map.ensures.closure (λ x r q k. search (rules, tests))))
-    c.filter.ensures.closure (λ x r q k. search (rules, tests))))
-    c.map-2.ensures.closure (λ x r q k. search (rules, tests)))
-    (λ a x b q k. let max : (q ≡ record {}) × (b ≡ ord_max order a x) = search rules in (max.0, max.1 ∙ higher-max a x))
-    ∙ sym (greatest-listed times heard 8)
+    let passes = λ (l : LedgerNo). has heard l.0 in
+    let proposed = λ (l : LedgerNo). proposal times l.0 in
+    folded (λ best l. cond (passes l) (higher best (proposed l)) best) _ no_stamp c.fold.result c.fold.ensures.ran
+    (yields-ledgers _ c.map.ensures.source refl c.map.ensures.closure (λ x r q k. search (rules, tests)))
+    (λ best x b q k.
+    let given : (q ≡ _) × (b ≡ cond (passes x) (ord_max order best (proposed x)) best) = search (rules, tests) in
+    (given.0, given.1 ∙ ap (λ s. cond (passes x) s best) (higher-max best (proposed x))))
+    ∙ sym (greatest-listed times heard 8 ∙ fold-passed higher passes proposed no_stamp (ledgers_to 8))

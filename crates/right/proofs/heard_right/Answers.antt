@@ -13,8 +13,7 @@ unfolding heard_right
 returns c =
     let p = c.args.p in
     let test = λ (l : LedgerNo). time_right p l.0 in
-    let new = c.new.ensures in
     all_from_yields_List test _ _ c.all.result c.all.ensures.ran
-    (yields-ledgers _ c.map.ensures.source new.start new.end new.exhausted c.map.ensures.closure (λ x r q k. search (rules, tests)))
+    (yields-ledgers _ c.map.ensures.source refl c.map.ensures.closure (λ x r q k. search (rules, tests)))
     (λ x b q k. search (rules, tests))
     ∙ sym (every-number numbered (λ i. time_right p (suc i)) test 8 (λ i h. refl))

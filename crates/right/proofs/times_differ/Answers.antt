@@ -14,8 +14,7 @@ returns c =
     let p = c.args.p in
     let q = c.args.q in
     let test = λ (l : LedgerNo). not (shared p q l.0) in
-    let new = c.new.ensures in
     all_from_yields_List test _ _ c.all.result c.all.ensures.ran
-    (yields-ledgers _ c.map.ensures.source new.start new.end new.exhausted c.map.ensures.closure (λ x r s k. search (rules, tests)))
+    (yields-ledgers _ c.map.ensures.source refl c.map.ensures.closure (λ x r s k. search (rules, tests)))
     (λ x b s k. search (rules, tests))
     ∙ sym (differ-shared p q ∙ every-number numbered (λ i. not (shared p q (suc i))) test 8 (λ i h. refl))
